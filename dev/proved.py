@@ -70,13 +70,13 @@ def sums_in(record: Record) -> list[str]:
     return list(dict.fromkeys([*record.get("files", {}).values(), *record.get("earlier", [])]))
 
 
-def write(top: Path, made: Record) -> None:
+def write(top: Path, record: Record) -> None:
     """Writes a record, which names beside its own files the programs that were proved earlier."""
-    earlier = [total for total in sums_in(read(top)) if total not in made["files"].values()]
-    made = made | {"earlier": earlier}
+    earlier = [total for total in sums_in(read(top)) if total not in record["files"].values()]
+    record = record | {"earlier": earlier}
     record_of(top).parent.mkdir(exist_ok=True)
     beside = record_of(top).with_suffix(f".{os.getpid()}")
-    beside.write_text(json.dumps(made, indent=1) + "\n")
+    beside.write_text(json.dumps(record, indent=1) + "\n")
     beside.replace(record_of(top))
 
 

@@ -32,7 +32,7 @@ def mean_of(name: str, tag: str, attribute: str) -> Figure:
     return figure
 
 
-def said(pattern: str) -> Figure:
+def in_text(pattern: str) -> Figure:
     """A number that a tool says."""
     return lambda _, text: float(re.search(pattern, text)[1])
 
@@ -71,7 +71,7 @@ TOOLS = (
          mean_of("tripinfo_60.xml", "tripinfo", "duration")),
     Tool("runSeeds.py -k run.sumocfg -a {sumo} --seeds 1:3", "mean trip of seed 2, s",
          mean_of("2.tripinfo.xml", "tripinfo", "duration"), 1),
-    Tool("averageTripStatistics.py -n 2 run.sumocfg", "mean loss, s", said(r"TimeLoss.* mean ([\d.]+)")),
+    Tool("averageTripStatistics.py -n 2 run.sumocfg", "mean loss, s", in_text(r"TimeLoss.* mean ([\d.]+)")),
     Tool("tlsCoordinator.py -n net.xml -r vehroute.xml -o a.xml", "offsets", rows("a.xml", "tlLogic")),
     Tool("tlsCycleAdaptation.py -n net.xml -r vehroute.xml -o a.xml", "lights", rows("a.xml", "tlLogic")),
     Tool("routeSampler.py -r vehroute.xml --edgedata-files counts.xml -o a.xml",
@@ -80,16 +80,16 @@ TOOLS = (
     Tool("output/tripinfoDiff.py tripinfo.xml tripinfo.xml a.xml", "vehicles", rows("a.xml", "vehicle")),
     Tool("output/edgeDataDiff.py edgedata.xml edgedata.xml a.xml", "edges", rows("a.xml", "edge")),
     Tool("output/tripStatistics.py -t tripinfo.xml -o a.txt", "lines", rows("a.txt")),
-    Tool("output/attributeStats.py tripinfo.xml -e tripinfo -a routeLength", "mean way, m", said(r"mean ([\d.]+)")),
-    Tool("output/attributeStats.py tripinfo.xml -e tripinfo -a duration", "mean trip, s", said(r"mean ([\d.]+)")),
+    Tool("output/attributeStats.py tripinfo.xml -e tripinfo -a routeLength", "mean way, m", in_text(r"mean ([\d.]+)")),
+    Tool("output/attributeStats.py tripinfo.xml -e tripinfo -a duration", "mean trip, s", in_text(r"mean ([\d.]+)")),
     Tool("output/attributeStats.py statistic.xml -e vehicleTripStatistics -a speed", "speed of trips, m/s",
-         said(r"mean ([\d.]+)")),
-    Tool("output/attributeStats.py e1.xml -e interval -a nVehContrib", "vehicles at a loop", said(r"mean ([\d.]+)")),
+         in_text(r"mean ([\d.]+)")),
+    Tool("output/attributeStats.py e1.xml -e interval -a nVehContrib", "vehicles at a loop", in_text(r"mean ([\d.]+)")),
     Tool("output/attributeStats.py e2.xml -e interval -a meanVehicleNumber", "vehicles in an area",
-         said(r"mean ([\d.]+)")),
-    Tool("output/attributeStats.py edgedata.xml -e edge -a speed", "speed on edges, m/s", said(r"mean ([\d.]+)")),
+         in_text(r"mean ([\d.]+)")),
+    Tool("output/attributeStats.py edgedata.xml -e edge -a speed", "speed on edges, m/s", in_text(r"mean ([\d.]+)")),
     Tool("output/computeCoordination.py -f fcd.xml --filter-route J1J2,J2J3", "vehicles of a way",
-         said(r"n=(\d+)")),
+         in_text(r"n=(\d+)")),
     Tool("xml/xml2csv.py tripinfo.xml -o a.csv", "lines", rows("a.csv")),
     Tool("xml/xml2csv.py summary.xml -o a.csv", "lines", rows("a.csv")),
     Tool("countEdgeUsage.py vehroute.xml -o a.xml", "edges", rows("a.xml", "edge")),

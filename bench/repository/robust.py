@@ -556,16 +556,16 @@ def page_memory(folder, program, seconds):
             address = process.stdout.readline().strip()
             link = http.client.HTTPConnection("127.0.0.1", urlsplit(address).port, timeout=600)
             asked = [("begin", "")]
-            while (now := time.monotonic() - begin) < seconds:
+            while (elapsed := time.monotonic() - begin) < seconds:
                 verb, body = asked.pop() if asked else ("step", json.dumps({"steps": STEPS_AT_ONCE}))
                 link.request("POST", f"{urlsplit(address).path}bench/{verb}", body)
                 answer = link.getresponse()
                 if answer.status != 200:
                     raise SystemExit(f"the page answers {answer.read()[:200]!r}")
                 answer.read()
-                if not memory or now - looked >= LIVE_PAUSE:
-                    looked = now
-                    memory.append((now, memory_of(process.pid)))
+                if not memory or elapsed - looked >= LIVE_PAUSE:
+                    looked = elapsed
+                    memory.append((elapsed, memory_of(process.pid)))
         finally:
             process.terminate()
     return memory

@@ -162,17 +162,17 @@ def warn_of_proof(path: Path) -> None:
     built = any((top / "build").is_file() for top in tops)
     advice = "`./build` makes the proved one" if built else "ask for a package that was proved"
     if proof_of(str(path)) is Proof.UNPROVED:
-        tell(f"NOT PROVED: this program was built without proofs: {advice}")
+        print_line(f"NOT PROVED: this program was built without proofs: {advice}")
         return
     told = elsewhere()
     line = f"this program is {told}" if told else f"not known to be proved: no record names this program: {advice}"
     if "streetsim.cli.commands" in sys.modules:
         AT_END.append(line)
     else:
-        tell(line)
+        print_line(line)
 
 
-def tell(line: str) -> None:
+def print_line(line: str) -> None:
     """Prints a line of a program on standard error."""
     print(f"streetsim: {line}", file=sys.stderr, flush=True)
 
@@ -180,4 +180,4 @@ def tell(line: str) -> None:
 def tell_at_end() -> None:
     """Prints what warn_of_proof has kept for the end of a command."""
     for line in AT_END:
-        tell(line)
+        print_line(line)

@@ -40,9 +40,9 @@ def crowded_works(run: Run, mapping: Map, closures: Sequence[Closure]) -> list[D
     told_of_crowding, of edges with further links, to which nobody changes."""
     doubts = []
     for link in sorted({one.link for one in closures}):
-        own, edge = [one for one in closures if one.link == link], mapping.links[link].edge
-        hour = worst(run, mapping, own)
-        passes, behind = passes_beside(mapping, min(own, key=lambda one: one.first_cell))
+        link_works, edge = [one for one in closures if one.link == link], mapping.links[link].edge
+        hour = worst(run, mapping, link_works)
+        passes, behind = passes_beside(mapping, min(link_works, key=lambda one: one.first_cell))
         share = hour.hourly / hour.open_lanes / passes if hour.open_lanes else 0.0
         if share >= NEARLY:
             open_ = "the open lane passes" if hour.open_lanes == 1 else f"the {hour.open_lanes} open lanes pass"
@@ -50,7 +50,7 @@ def crowded_works(run: Run, mapping: Map, closures: Sequence[Closure]) -> list[D
             vehicles = round(hour.hourly * (hour.end - hour.begin) / 3600)
             times = hour.begin, hour.end, round(share, 2), vehicles
             doubts.append(Doubt(OF_WORKS, "", edge, why, ADDED, "", "", *times))
-        told = too_many(run, mapping, own)
+        told = too_many(run, mapping, link_works)
         if told and len(mapping.links_of[edge]) > 1:
             doubts.append(Doubt(OF_WORKS, "", edge, f"{told}; {BESIDE}", ADDED, "", "", hour.begin, hour.end))
     return doubts

@@ -14,7 +14,7 @@ from itertools import takewhile
 
 from streetsim.control.yielding_fullness import LitFullness
 from streetsim.control.yielding_plans import AS_PLANNED, CLOSED, OPENED, PlansInForce
-from streetsim.control.yielding_sight import Ahead, LanesSeen
+from streetsim.control.yielding_sight import LinksAhead, LanesSeen
 from streetsim.control.yielding_ways import NO_TURN, Lanes, MeetingTurn, Ways
 from streetsim.kernel.loop import Controller, Kernel, SentLine
 from streetsim.kernel.seconds import READY, Block
@@ -59,13 +59,13 @@ class LitYielding(Controller):
         self.last_sent: SentLine | None = None
         self.ways = Ways(self.mapping)
         self.lanes = Lanes(self.mapping, self.ways, kernel.run.load.command["nodes"])
-        self.plans, self.ahead = PlansInForce(self.ways, self.lanes), Ahead(kernel.vehicles)
+        self.plans, self.links_ahead = PlansInForce(self.ways, self.lanes), LinksAhead(kernel.vehicles)
         for line in kernel.run.first:
             self.plans.note(kernel.start, line.command)
         self.fullness.end += kernel.start
-        self.left: dict[int, int] = {}  # by turn the clock at which one left by it
+        self.left_at: dict[int, int] = {}  # by turn the clock at which one left by it
         self.free_at: dict[int, float] = {}  # by lane the clock from which on the next one may go
-        self.held: dict[int, int] = {}  # by lane who stood there in the last second and was to wait
+        self.held_cars: dict[int, int] = {}  # by lane who stood there in the last second and was to wait
         self.waited: dict[int, tuple[int, int]] = {}  # by lane who waited there last, and until when
         self.let_go: list[Front] = []  # in the last second
         self.stood_since: dict[int, int] = {}  # by car the clock since which it stands first
@@ -75,19 +75,19 @@ class LitYielding(Controller):
         """The next second."""
         return self.clock
 
-    def act(self, clock: int, now: Block) -> None:
+    def act(self, clock: int, block: Block) -> None:
         """Closes and opens turns for the next second."""
         self.clock = clock + 1
         self.note_lines(clock)
         self.plans.advance(clock)
-        self.note_left(clock, now)
-        fronts = self.find_fronts(clock, now)
+        self.note_left(clock, block)
+        fronts = self.find_fronts(clock, block)
         meeting = ((front.slot, front.car) for front in fronts if self.plans.is_meeting(front.slot))
         self.fullness.note_second(clock, self.plans.alert_cell, meeting)
         if fronts and clock < self.kernel.until:
-            self.decide(clock, now, fronts)
+            self.decide(clock, block, fronts)
         else:
-            self.held, self.let_go = {}, []
+            self.held_cars, self.let_go = {}, []
 
     def full_passages(self) -> dict[str, int]:
         """By edge with lanes that were full, from which some give way: vehicles that passed these then; the part under
@@ -107,18 +107,19 @@ class LitYielding(Controller):
                 self.plans.note(clock, line.line.command)
         self.last_sent = sent[-1] if sent else None
 
-    def note_left(self, clock: int, now: Block) -> None:
+    def note_left(self, clock: int, block: Block) -> None:
         """Notes of those who were let go in the last second who went, and when the next ones may."""
         for front in self.let_go:
-            [row] = (now.car == front.car).nonzero()[0].tolist() or [-1]
-            if row < 0 or now.cell[row] & READY != clock - 1 + self.lanes.residence[front.slot] or now.cell[row] >= 0:
+            [row] = (block.car == front.car).nonzero()[0].tolist() or [-1]
+            ready = clock - 1 + self.lanes.residence[front.slot]
+            if row < 0 or block.cell[row] & READY != ready or block.cell[row] >= 0:
                 continue
             since = self.stood_since.pop(front.car, clock)
             free_at = self.free_at.get(front.slot, LONG_AGO)
             begin = free_at if clock - 1 - free_at < 1 else clock - 1
             more = AFTER_STAND if clock - 1 - since >= LONG_STAND else 0.0
             self.free_at[front.slot] = begin + front.way.headway + more
-            self.left[front.turn] = clock
+            self.left_at[front.turn] = clock
 
     def lively_lanes(self, clock: int) -> set[int]:
         """The lanes that are looked at though none of their turns meets others now."""
@@ -126,21 +127,21 @@ class LitYielding(Controller):
         self.free_at = {slot: free_at for slot, free_at in self.free_at.items() if free_at > clock - QUEUED}
         return {*self.waited, *self.free_at, *self.plans.changed, *self.lanes.may_stop}
 
-    def find_fronts(self, clock: int, now: Block) -> list[Front]:
+    def find_fronts(self, clock: int, block: Block) -> list[Front]:
         """Those who are first of lanes where it is to be decided whether they go, and may pass the line in the next
         second; notes since when they stand there."""
         cells = self.plans.alert_cell
         if lively := [slot for slot in self.lively_lanes(clock) if not self.plans.is_meeting(slot)]:
             cells = cells.copy()
             cells[lively] = self.lanes.line_cell[lively]
-        rows = (now.cell >= cells[now.slot]).nonzero()[0]
+        rows = (block.cell >= cells[block.slot]).nonzero()[0]
         fronts, last_slot, looked_at = [], -1, set()
-        columns = (column[rows].tolist() for column in (now.car, now.slot, now.cell, now.speed))
+        columns = (column[rows].tolist() for column in (block.car, block.slot, block.cell, block.speed))
         for car, slot, cell, speed in zip(*columns):
             left = self.lanes.length[slot] - cell
             looked_at.add(slot)
             if slot != last_slot and left <= speed + 1:
-                turn = self.ways.number.get((slot, self.ahead.links(car, slot >> 1)[0]), NO_TURN)
+                turn = self.ways.number.get((slot, self.links_ahead.links(car, slot >> 1)[0]), NO_TURN)
                 stands = speed == 0 and left == 1
                 if stands:
                     self.stood_since.setdefault(car, clock if slot in self.looked_at else clock - 1 - LONG_STAND)
@@ -150,26 +151,26 @@ class LitYielding(Controller):
         self.looked_at = looked_at
         return fronts
 
-    def decide(self, clock: int, now: Block, fronts: Sequence[Front]) -> None:
+    def decide(self, clock: int, block: Block, fronts: Sequence[Front]) -> None:
         """Decides of each of those who are first, in their ranks, whether it goes, and shows it."""
-        plans, held = self.plans, self.held
+        plans, held_before = self.plans, self.held_cars
         for front in fronts:
             front.looks = plans.meets(front.turn) or (front.stands and self.may_go_late(clock, front))
         looking = sorted((front for front in fronts if front.looks), key=lambda front: (front.way.rank, front.slot))
-        self.held, self.let_go = {}, []
-        shown = {front.turn: self.goes_as_planned(clock, front) for front in fronts if not front.looks}
+        self.held_cars, self.let_go = {}, []
+        goes_by_turn = {front.turn: self.goes_as_planned(clock, front) for front in fronts if not front.looks}
         if looking:
             slots = set[int]().union(*(plans.seen_lanes(front.turn) for front in looking))
-            seen = LanesSeen(clock, now, slots, self.ahead, plans, held)
+            seen = LanesSeen(clock, block, slots, self.links_ahead, plans, held_before)
             going: set[int] = set()
             for front in looking:
-                shown[front.turn] = self.has_gap(clock, front, seen, going)
-                if shown[front.turn]:
+                goes_by_turn[front.turn] = self.has_gap(clock, front, seen, going)
+                if goes_by_turn[front.turn]:
                     going.add(front.turn)
                     self.let_go.append(front)
                 elif front.stands and plans.is_green(front.turn):
-                    self.held[front.slot], self.waited[front.slot] = front.car, (front.car, clock)
-        self.show(shown)
+                    self.held_cars[front.slot], self.waited[front.slot] = front.car, (front.car, clock)
+        self.show(goes_by_turn)
 
     def may_go_late(self, clock: int, front: Front) -> bool:
         """Whether one that stands goes though its light is red, as soon as there is a gap: it waited there in the
@@ -185,29 +186,29 @@ class LitYielding(Controller):
         is_free = self.plans.gives(front.turn) or free_at <= clock + HALF
         return self.plans.is_green(front.turn) and is_free
 
-    def has_gap(self, clock: int, front: Front, seen: LanesSeen, going: set[int]) -> bool:
+    def has_gap(self, clock: int, front: Front, lanes_seen: LanesSeen, going: set[int]) -> bool:
         """Whether one may go. going: the turns by which some are let go in this second."""
         if self.free_at.get(front.slot, LONG_AGO) > clock + HALF:
             return False
-        follows = clock - self.left.get(front.turn, LONG_AGO) <= FOLLOWING
+        follows = clock - self.left_at.get(front.turn, LONG_AGO) <= FOLLOWING
         needed = STANDING_GAP if front.stands or follows else ROLLING_GAP
-        needed += LONGER * (int(self.ahead.vehicles.size[front.car]) - 1)
+        needed += LONGER * (int(self.links_ahead.vehicles.size[front.car]) - 1)
         for foe, is_crossed in front.way.foes.items():
-            if foe in seen.passed:
+            if foe in lanes_seen.turns_passed:
                 return False
-            if is_crossed and seen.seconds.get(foe, needed) < needed and not self.waits(foe, seen, going):
+            if is_crossed and lanes_seen.seconds.get(foe, needed) < needed and not self.waits(foe, lanes_seen, going):
                 return False
         return True
 
     def waits(self, foe: int, seen: LanesSeen, going: set[int]) -> bool:
         """Whether one that goes first waits itself."""
         slot = self.ways.all[foe].slot
-        return self.plans.gives(foe) and (slot in self.held or (slot in seen.held and foe not in going))
+        return self.plans.gives(foe) and (slot in self.held_cars or (slot in seen.held_cars and foe not in going))
 
     def show(self, shown: dict[int, bool]) -> None:
         """Shows turns green or not in the next second, where they are not shown so already."""
         plans = self.plans
-        if changed := [turn for turn, goes in shown.items() if plans.shown(turn) != goes]:
+        if changed := [turn for turn, goes in shown.items() if plans.is_shown(turn) != goes]:
             for turn in changed:
                 goes = shown[turn]
                 plans.set_mode(turn, AS_PLANNED if plans.is_green(turn) == goes else OPENED if goes else CLOSED)

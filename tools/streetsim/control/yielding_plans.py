@@ -25,7 +25,7 @@ class ShownPhase(NamedTuple):
     """A phase of a node's plan, by numbers of turns that are looked at."""
 
     greens: frozenset[int]
-    comes: frozenset[int]  # by which somebody may come
+    coming: frozenset[int]  # by which somebody may come
     meets: frozenset[int]  # green ones, where somebody may come before whom they give way
     slots: Array  # the lanes of those
 
@@ -78,14 +78,14 @@ def with_held_back(greens: Array, seconds: Array, goes_before: Array) -> Array:
     """By phase and turn whether somebody may come by it: where it is green or held back, and in reds of HELD_AT_BEGIN
     before one, where a turn that gives way to it has begun. greens: by phase and turn; goes_before: by turn and another
     one 1 where that goes first, else 0."""
-    comes = np.array([held_back(turn, seconds.tolist()) for turn in greens.T.tolist()]).T
+    may_come = np.array([held_back(turn, seconds.tolist()) for turn in greens.T.tolist()]).T
     is_short = (seconds <= HELD_AT_BEGIN)[:, None]
     begun = greens & ~np.roll(greens, 1, axis=0)
     begun |= greens & np.roll(begun & is_short, 1, axis=0)
     is_met = begun.astype(np.int64) @ goes_before > 0
     for _ in range(2):
-        comes |= is_short & is_met & np.roll(comes, -1, axis=0)
-    return comes
+        may_come |= is_short & is_met & np.roll(may_come, -1, axis=0)
+    return may_come
 
 
 def held_back(greens: Sequence[bool], seconds: Sequence[int]) -> list[bool]:
@@ -93,19 +93,20 @@ def held_back(greens: Sequence[bool], seconds: Sequence[int]) -> list[bool]:
     import holds queues back. greens, seconds: by phase of a cycle."""
     if all(greens) or not any(greens):
         return [*greens]
-    begin = next(at for at in range(len(greens)) if greens[at] and not greens[at - 1])
-    order = [(begin + at) % len(greens) for at in range(len(greens))]
-    runs = [(green, [*own]) for green, own in groupby(order, key=lambda at: greens[at])]  # green and red by turns
-    lengths = [sum(seconds[at] for at in own) for _, own in runs]
-    found = [*greens]
-    for number, (green, own) in enumerate(runs):
+    begin = next(phase for phase in range(len(greens)) if greens[phase] and not greens[phase - 1])
+    order = [(begin + phase) % len(greens) for phase in range(len(greens))]
+    # Green and red by turns.
+    runs = [(green, [*phases]) for green, phases in groupby(order, key=lambda phase: greens[phase])]
+    lengths = [sum(seconds[phase] for phase in phases) for _, phases in runs]
+    is_open = [*greens]
+    for number, (green, phases) in enumerate(runs):
         before, red, after = lengths[number - 1], lengths[number], lengths[(number + 1) % len(runs)]
         whole = before + red + after
         from_half = abs(before - whole / 2) <= ROUNDED and red <= MOST_HELD * whole
         if not green and (red <= HELD_BACK or from_half):
-            for at in own:
-                found[at] = True
-    return found
+            for phase in phases:
+                is_open[phase] = True
+    return is_open
 
 
 class PlansInForce:
@@ -119,7 +120,7 @@ class PlansInForce:
             self.turns_at[way.node].append(turn)
         self.plans: dict[int, NodePlan] = {}
         self.offsets: dict[int, int] = {}
-        self.known: dict[str, NodePlan] = {}  # by node and phases
+        self.plan_by_key: dict[str, NodePlan] = {}  # by node and phases
         self.phases = dict.fromkeys(self.turns_at, NOTHING_SHOWN)  # by node what is shown now
         self.mode = [AS_PLANNED] * len(ways.all)
         self.changed: dict[int, set[int]] = {}  # by lane the turns that are not as planned
@@ -133,9 +134,9 @@ class PlansInForce:
         if command["cmd"] != "signal" or (node := command["node"]) not in self.turns_at:
             return
         key = f"{node}{json.dumps(command['phases'])}"
-        if key not in self.known:
-            self.known[key] = NodePlan(command, self.turns_at[node], self.ways)
-        self.plans[node], self.offsets[node] = self.known[key], command.get("offset", 0)
+        if key not in self.plan_by_key:
+            self.plan_by_key[key] = NodePlan(command, self.turns_at[node], self.ways)
+        self.plans[node], self.offsets[node] = self.plan_by_key[key], command.get("offset", 0)
         for turn in self.turns_at[node]:
             self.set_mode(turn, AS_PLANNED)
         self.number[node] = self.number.get(node, 0) + 1
@@ -166,9 +167,9 @@ class PlansInForce:
         """Whether the plan has a turn green now."""
         return turn in self.phase(turn).greens
 
-    def comes(self, turn: int) -> bool:
+    def may_come(self, turn: int) -> bool:
         """Whether somebody may come by a turn now."""
-        return turn in self.phase(turn).comes
+        return turn in self.phase(turn).coming
 
     def meets(self, turn: int) -> bool:
         """Whether a turn is green now and somebody may come before whom it gives way."""
@@ -184,14 +185,14 @@ class PlansInForce:
         who may have come, too."""
         foes = {*self.ways.all[turn].foes}
         if self.is_green(turn):
-            foes &= self.phase(turn).comes
+            foes &= self.phase(turn).coming
         return {slot for foe in foes for slot in self.lanes.seen_by[foe]}
 
     def is_meeting(self, slot: int) -> bool:
         """Whether some of a lane meet others now."""
         return bool(self.alert_cell[slot] != NO_CELL)
 
-    def shown(self, turn: int) -> bool:
+    def is_shown(self, turn: int) -> bool:
         """Whether a turn is shown green now."""
         return self.is_green(turn) if self.mode[turn] == AS_PLANNED else self.mode[turn] == OPENED
 

@@ -13,7 +13,7 @@ STARTING = 0.5  # seconds that one loses that stands on its way
 NOWHERE = -1  # the link behind the end of a plan
 
 
-class Ahead:
+class LinksAhead:
     """The links ahead of vehicles, by the plans with which they were entered."""
 
     def __init__(self, vehicles: Vehicles) -> None:
@@ -34,28 +34,29 @@ class LanesSeen:
     """Some lanes in one second."""
 
     def __init__(
-        self, clock: int, now: Block, slots: Iterable[int], ahead: Ahead, plans: PlansInForce, held: Mapping[int, int]
+        self, clock: int, block: Block, slots: Iterable[int], links_ahead: LinksAhead, plans: PlansInForce,
+        held_cars: Mapping[int, int],
     ) -> None:
-        """slots: that are looked at; plans: by which turns have green; held: by slot who stood there in the second
-        before and was to wait, who lets nobody of its lane pass."""
-        self.clock, self.ahead, self.held = clock, ahead, held
-        self.ways, self.lanes, self.comes = plans.ways, plans.lanes, plans.comes
+        """slots: that are looked at; plans: by which turns have green; held_cars: by slot who stood there in the
+        second before and was to wait, who lets nobody of its lane pass."""
+        self.clock, self.links_ahead, self.held_cars = clock, links_ahead, held_cars
+        self.ways, self.lanes, self.may_come = plans.ways, plans.lanes, plans.may_come
         self.seconds: dict[int, float] = {}  # by turn until the first one comes who may go on
-        self.passed: set[int] = set()  # the turns by which one passed in the last second
+        self.turns_passed: set[int] = set()  # the turns by which one passed in the last second
         wanted = np.array(sorted(slots), np.int32)
-        bounds = zip(wanted.tolist(), *(now.slot.searchsorted(wanted, side).tolist() for side in ("left", "right")))
+        bounds = zip(wanted.tolist(), *(block.slot.searchsorted(wanted, side).tolist() for side in ("left", "right")))
         rows = {slot: slice(begin, end) for slot, begin, end in bounds if begin < end}
-        columns = now.car, now.cell, now.speed
+        columns = block.car, block.cell, block.speed
         self.vehicles = {slot: [*zip(*(column[own].tolist() for column in columns))] for slot, own in rows.items()}
         for slot in self.vehicles:
             self.see_lane(slot)
-        for slot, before in self.lanes.before.items():
-            for other in before if slot in slots else ():
+        for slot, sources in self.lanes.sources.items():
+            for other in sources if slot in slots else ():
                 self.see_before(slot, other)
 
     def turn(self, car: int, slot: int) -> int:
         """The number of the turn by which a vehicle of a lane goes on."""
-        return self.ways.number.get((slot, self.ahead.links(car, slot >> 1)[0]), NO_TURN)
+        return self.ways.number.get((slot, self.links_ahead.links(car, slot >> 1)[0]), NO_TURN)
 
     def to_line(self, slot: int, cells_left: int, speed: int) -> float:
         """The seconds for which one drives to its stop line (cells_left 1: at it)."""
@@ -67,37 +68,37 @@ class LanesSeen:
         length, limit, lane = self.lanes.length[slot], self.lanes.limit[slot], self.vehicles[slot]
         inside = [(car, cell & READY) for car, cell, _ in lane if cell < 0]
         just_now = self.clock - 1 + self.lanes.residence[slot]
-        size = self.ahead.vehicles.size
-        self.passed.update(self.turn(car, slot) for car, ready in inside if just_now - ready < size[car])
+        size = self.links_ahead.vehicles.size
+        self.turns_passed.update(self.turn(car, slot) for car, ready in inside if just_now - ready < size[car])
         is_full = len(inside) >= self.lanes.room[slot]
         for place, (car, cell, speed) in enumerate(lane):
-            left = length - cell
-            if cell < 0 or left > HORIZON * limit:
+            cells_left = length - cell
+            if cell < 0 or cells_left > HORIZON * limit:
                 break
             turn = self.turn(car, slot)
-            goes_on = turn != NO_TURN and self.comes(turn)
-            stays = False
+            goes_on = turn != NO_TURN and self.may_come(turn)
+            is_stuck = False
             if place == 0:
-                stays = speed == 0 and left == 1 and (is_full or self.held.get(slot) == car)
-                stays |= turn != NO_TURN and not goes_on and left <= 2 * limit
-            if goes_on and not (stays and is_full):
-                self.note(turn, self.to_line(slot, left, speed))
-            if stays:
+                is_stuck = speed == 0 and cells_left == 1 and (is_full or self.held_cars.get(slot) == car)
+                is_stuck |= turn != NO_TURN and not goes_on and cells_left <= 2 * limit
+            if goes_on and not (is_stuck and is_full):
+                self.note(turn, self.to_line(slot, cells_left, speed))
+            if is_stuck:
                 break
 
-    def see_before(self, slot: int, before: int) -> None:
+    def see_before(self, slot: int, source: int) -> None:
         """Takes those into the seconds to a stop line of a short lane who come there from a lane before."""
         link = slot >> 1
         drive = self.lanes.length[slot] / (self.lanes.limit[slot] - DAWDLED)
-        for car, cell, speed in self.vehicles.get(before, ()):
-            left = self.lanes.length[before] - cell
-            if cell >= 0 and (speed == 0 or left > HORIZON * self.lanes.limit[before]):
+        for car, cell, speed in self.vehicles.get(source, ()):
+            cells_left = self.lanes.length[source] - cell
+            if cell >= 0 and (speed == 0 or cells_left > HORIZON * self.lanes.limit[source]):
                 continue
-            following, after = self.ahead.links(car, before >> 1)
+            following, after = self.links_ahead.links(car, source >> 1)
             turn = self.ways.number.get((slot, after), NO_TURN)
-            if following == link and turn != NO_TURN and self.comes(turn):
+            if following == link and turn != NO_TURN and self.may_come(turn):
                 inside = max(0, (cell & READY) - self.clock)
-                there = inside if cell < 0 else self.to_line(before, left, speed) + self.lanes.residence[before]
+                there = inside if cell < 0 else self.to_line(source, cells_left, speed) + self.lanes.residence[source]
                 self.note(turn, there + drive)
 
     def note(self, turn: int, seconds: float) -> None:

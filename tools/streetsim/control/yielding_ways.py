@@ -41,7 +41,7 @@ class Ways:
 
     def __init__(self, mapping: Map) -> None:
         """mapping: with who gives way at lights."""
-        slots = {2 * link + lane for one in mapping.lit_ways for way in one.ways for link, lane, _ in way}
+        slots = {2 * link + lane for node_ways in mapping.lit_ways for way in node_ways.ways for link, lane, _ in way}
         turns = [turn for turn in mapping.turns if 2 * turn.link + turn.lane in slots]
         self.all = [
             MeetingTurn(
@@ -51,7 +51,7 @@ class Ways:
             for turn in turns
         ]
         self.number = {(way.slot, way.name[2]): at for at, way in enumerate(self.all)}
-        self.nodes = sorted({one.node for one in mapping.lit_ways})
+        self.nodes = sorted({node_ways.node for node_ways in mapping.lit_ways})
         self.set_foes(mapping)
         for _ in range(MOST_RANKS):
             for way in self.all:
@@ -60,13 +60,16 @@ class Ways:
 
     def set_foes(self, mapping: Map) -> None:
         """Sets who goes before each turn, and which may go after a stop."""
-        for one in mapping.lit_ways:
-            own = [[self.number.get((2 * link + lane, to), NO_TURN) for link, lane, to in way] for way in one.ways]
-            for way, foe, beside in one.yields:
-                for turn in own[way]:
-                    others = (other for other in own[foe] if other not in own[way] and NO_TURN not in (turn, other))
-                    self.all[turn].foes.update((other, not beside) for other in others)
-            for turn in (turn for way in one.stops for turn in own[way] if turn != NO_TURN):
+        for node_ways in mapping.lit_ways:
+            turns_by_way = [
+                [self.number.get((2 * link + lane, to), NO_TURN) for link, lane, to in way] for way in node_ways.ways
+            ]
+            for way, foe, beside in node_ways.yields:
+                for turn in turns_by_way[way]:
+                    foes = (other for other in turns_by_way[foe] if other not in turns_by_way[way])
+                    met = (other for other in foes if NO_TURN not in (turn, other))
+                    self.all[turn].foes.update((other, not beside) for other in met)
+            for turn in (turn for way in node_ways.stops for turn in turns_by_way[way] if turn != NO_TURN):
                 self.all[turn].may_stop = True
 
 
@@ -82,9 +85,9 @@ class Lanes:
         # By slot the cell from which on one may pass the line in a step.
         self.line_cell = np.array([length - limit for length, limit in zip(self.length, self.limit)])
         first = {ways.all[foe].slot for way in ways.all for foe in way.foes}
-        self.before = self.lanes_before(mapping, {slot for slot in first if self.is_short(slot)})
+        self.sources = self.lanes_before(mapping, {slot for slot in first if self.is_short(slot)})
         # By turn the lanes on which those are who go on by it, as far as they are seen.
-        self.seen_by = [[way.slot, *self.before.get(way.slot, ())] for way in ways.all]
+        self.seen_by = [[way.slot, *self.sources.get(way.slot, ())] for way in ways.all]
 
     def is_short(self, slot: int) -> bool:
         """Whether a lane is so short that who goes first is to be seen before it."""

@@ -65,7 +65,7 @@ class World:
         self.kernel = Kernel(self.program, page_run.run, page_run.mapping, controllers, observers)
         # By node the last plan that the run or the page has set, and what detectors have its light show since.
         self.plans: dict[int, Command] = {}
-        self.shown: dict[int, Command] = {}
+        self.shown_commands: dict[int, Command] = {}
         self.untold_plans, self.untold_shown = set[int](), set[int]()
         self.noted_count = 0  # of the lines that were sent and are not forgotten
         self.note_signals((line, True) for line in page_run.run.first)
@@ -104,10 +104,10 @@ class World:
             command = line.command
             if command["cmd"] == "signal" and command["node"] not in self.page_run.givers:
                 node = command["node"]
-                (self.plans if is_plan else self.shown)[node] = command
+                (self.plans if is_plan else self.shown_commands)[node] = command
                 (self.untold_plans if is_plan else self.untold_shown).add(node)
                 if is_plan:
-                    self.shown.pop(node, None)
+                    self.shown_commands.pop(node, None)
                     self.untold_shown.discard(node)
 
     def close(self) -> None:
@@ -127,7 +127,7 @@ class World:
     def forget_sent(self) -> None:
         """Has the next message tell all, as to a page that knows nothing."""
         self.cars_sent = self.points_sent = self.every_sent = -1
-        self.untold_plans, self.untold_shown = {*self.plans}, {*self.shown}
+        self.untold_plans, self.untold_shown = {*self.plans}, {*self.shown_commands}
 
     def message(self) -> Json:
         """What a page is to know of the last second beside its rows: all, or what is new since the last message."""
@@ -156,7 +156,7 @@ class World:
         last of each node alone."""
         self.take_sent()
         plans = [self.plans[node] for node in sorted(self.untold_plans)]
-        shown = [self.shown[node] for node in sorted(self.untold_shown)]
+        shown = [self.shown_commands[node] for node in sorted(self.untold_shown)]
         self.untold_plans, self.untold_shown = set(), set()
         return plans, shown
 

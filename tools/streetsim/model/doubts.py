@@ -13,10 +13,10 @@ from streetsim.model.names import Names
 LANE, MOVEMENT, APPROACH, JUNCTION, OF_WORKS = "lane", "movement", "approach", "junction", "works"  # kinds of places
 DELAYS, QUEUES, ALL, ADDED = "delay and letter", "queue", "delay, letter and queue", "what the works add"  # touched
 MOST_TOLD = 3  # places in a last line
-AFTER = 900  # seconds for which the queue of a lane that was full goes on
+QUEUE_GOES_ON = 900  # seconds for which the queue of a lane that was full goes on
 SPREAD = 0.25  # of the time lost in an approach or at a junction, from which on doubted movements doubt it
 DOUBTED = "streetsim.not-trusted"  # the parameter of a light's program that says why what made it is not to be trusted
-NEEDED = ("kind", "junction", "edge", "why", "touches")  # what each doubt has
+NEEDED_FIELDS = ("kind", "junction", "edge", "why", "touches")  # what each doubt has
 
 
 @dataclass(slots=True, frozen=True)
@@ -37,24 +37,24 @@ class Doubt:
     spills: bool = False  # its queue stands before the lanes beside, so that it is of its whole approach
 
     def covers(self, begin: int, end: int) -> bool:
-        """Whether it lasts in an interval, or ended less than AFTER before it."""
-        return self.begin < end and (not self.end or begin < self.end + AFTER)
+        """Whether it lasts in an interval, or ended less than QUEUE_GOES_ON before it."""
+        return self.begin < end and (not self.end or begin < self.end + QUEUE_GOES_ON)
 
     def place_told(self, names: Names) -> str:
         """Its place in words, with ids only where there are no names, and from when to when it is."""
         if self.kind == OF_WORKS:
             street = names.street(self.edge)
-            where = f"works on {street}, {names.coming_from(self.edge)}" if street else f"works on {self.edge}"
+            place = f"works on {street}, {names.coming_from(self.edge)}" if street else f"works on {self.edge}"
         elif self.kind == JUNCTION or not self.edge:
-            where = names.junction_told(self.junction)
+            place = names.junction_told(self.junction)
         else:
             way = names.movement(self.edge, self.target) if self.target else names.approach(self.edge)
             ids = f" ({self.edge}{f' to {self.target}' if self.target else ''})" if not names.street(self.edge) else ""
-            where = f"{way}{ids}, at {names.junction_told(self.junction)}"
+            place = f"{way}{ids}, at {names.junction_told(self.junction)}"
         when = f", {time_of_day(self.begin)} to {time_of_day(self.end)}" if self.end else ""
-        return where + when
+        return place + when
 
-    def told(self, names: Names) -> str:
+    def in_words(self, names: Names) -> str:
         """Its place, why, and what it touches, as plain text."""
         return f"{self.place_told(names)}: {self.why} ({self.touches})"
 
@@ -72,7 +72,8 @@ def doubt_rows(doubts: Iterable[Doubt]) -> list[Json]:
     """Doubts for a setting: what each has that is not usual."""
     usual = asdict(Doubt("", "", "", "", ""))
     return [
-        {name: value for name, value in asdict(one).items() if value != usual[name] or name in NEEDED} for one in doubts
+        {name: value for name, value in asdict(one).items() if value != usual[name] or name in NEEDED_FIELDS}
+        for one in doubts
     ]
 
 
@@ -91,7 +92,7 @@ def places_told(doubts: Sequence[Doubt], mapping: Map) -> str:
     ranked, names = worst_first(doubts), Names(mapping)
     if not ranked:
         return ""
-    told = "; ".join(one.told(names) for one in ranked[:MOST_TOLD])
+    told = "; ".join(one.in_words(names) for one in ranked[:MOST_TOLD])
     left = len(ranked) - MOST_TOLD
     more = f"; and at {left:,} other place{'' if left == 1 else 's'}" if left > 0 else ""
     return f"doubted most of all at {told}{more}"
@@ -100,21 +101,21 @@ def places_told(doubts: Sequence[Doubt], mapping: Map) -> str:
 def joined(doubts: Iterable[Doubt]) -> Iterator[Doubt]:
     """Doubts of one place, kind and reason in intervals that follow each other as one, of the greatest size."""
 
-    def place(one: Doubt) -> tuple[str, ...]:
+    def place(doubt: Doubt) -> tuple[str, ...]:
         """What those have in common that are joined."""
-        return one.kind, one.junction, one.edge, one.lane, one.target, one.touches
+        return doubt.kind, doubt.junction, doubt.edge, doubt.lane, doubt.target, doubt.touches
 
-    for _, group in groupby(sorted(doubts, key=lambda one: (*place(one), one.begin)), place):
+    for _, group in groupby(sorted(doubts, key=lambda doubt: (*place(doubt), doubt.begin)), place):
         last: Doubt | None = None
-        for one in group:
-            if last and last.end and one.begin <= last.end:
-                worse = max(last, one, key=lambda both: both.size)
-                vehicles = last.vehicles + one.vehicles
-                last = replace(worse, begin=last.begin, end=max(last.end, one.end), vehicles=vehicles)
+        for doubt in group:
+            if last and last.end and doubt.begin <= last.end:
+                worse = max(last, doubt, key=lambda both: both.size)
+                vehicles = last.vehicles + doubt.vehicles
+                last = replace(worse, begin=last.begin, end=max(last.end, doubt.end), vehicles=vehicles)
                 continue
             if last:
                 yield last
-            last = one
+            last = doubt
         if last:
             yield last
 
@@ -136,13 +137,13 @@ class DoubtsByPlace:
     ) -> list[Doubt]:
         """What doubts a movement in an interval (begin, end); lanes: SUMO's ids of those that it uses."""
         lanes = {*lanes}
-        return [one for one in self.at(interval, junction, edge) if touches_movement(one, target, lanes)]
+        return [one for one in self.around(interval, junction, edge) if touches_movement(one, target, lanes)]
 
     def of_approach(self, interval: tuple[int, int], junction: str, edge: str) -> list[Doubt]:
         """What doubts a whole approach in an interval (begin, end)."""
-        return [one for one in self.at(interval, junction, edge) if is_of_all(one)]
+        return [one for one in self.around(interval, junction, edge) if is_of_all(one)]
 
-    def at(self, interval: tuple[int, int], junction: str, edge: str) -> Iterator[Doubt]:
+    def around(self, interval: tuple[int, int], junction: str, edge: str) -> Iterator[Doubt]:
         """What there is of an approach and of its junction in an interval (begin, end)."""
         for one in (*self.by_edge.get(edge, ()), *self.by_junction.get(junction, ())):
             if one.covers(*interval):

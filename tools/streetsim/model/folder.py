@@ -141,11 +141,11 @@ def read_folder(path: str) -> Folder:
     """What streetsim-run left in the folder of one run; Fault where it is no such folder, or one of several seeds."""
     if not os.path.exists(f"{path}/{NAME}") and (seeds := seeds_in(path)):
         raise Fault(f"{path}: the runs of {len(seeds)} seeds: name one of them, {path}/seed-{seeds[0]}")
-    value = read_json(f"{path}/{NAME}", ("map", "signals", "dawdle", "every", "period"))
-    own = {key: value[key] for key in ("signals", "dawdle", "every", "period")}
-    made, doubts = value.get("made", {}), value.get("not_trusted", [])
+    contents = read_json(f"{path}/{NAME}", ("map", "signals", "dawdle", "every", "period"))
+    fields = {key: contents[key] for key in ("signals", "dawdle", "every", "period")}
+    made, doubts = contents.get("made", {}), contents.get("not_trusted", [])
     try:
-        places = doubts_from(value.get("doubts", ()))
+        places = doubts_from(contents.get("doubts", ()))
     except TypeError as fault:
         raise Fault(f"{path}/{NAME}: doubts: {fault}") from None
-    return Folder(path, map_from(path, value["map"]), **own, setting=made, doubts=doubts, places=places)
+    return Folder(path, map_from(path, contents["map"]), **fields, setting=made, doubts=doubts, places=places)

@@ -87,13 +87,13 @@ class Entries:
         edge_of, self.departs = movements.edge_of[plans.links], departs
         place, last = plans.first_places.copy(), plans.end_places - 1
         approach = movements.approach_of[plans.links[place]]
-        own = np.append(movements.approach_edges, -1)[approach]  # -1: on none
-        while (off := (edge_of[place] != own) & (place < last) & (own >= 0)).any():
+        own_approach = np.append(movements.approach_edges, -1)[approach]  # -1: on none
+        while (off := (edge_of[place] != own_approach) & (place < last) & (own_approach >= 0)).any():
             place[off] += 1
-        on_way = (own >= 0) & (edge_of[place] == own) & (place < last)
+        on_way = (own_approach >= 0) & (edge_of[place] == own_approach) & (place < last)
         following = edge_of[np.minimum(place + 1, last)]
         # By vehicle, -1: its trip begins elsewhere or ends there.
-        self.movement = np.where(on_way, own * len(movements.edges) + following, -1)
+        self.movement = np.where(on_way, own_approach * len(movements.edges) + following, -1)
 
     def grown(self, begins: Array, start: int, interval: int) -> dict[int, dict[int, int]]:
         """By interval and movement how many more wait to enter at its end than at its begin, without those that are 0.

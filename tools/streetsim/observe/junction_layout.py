@@ -119,13 +119,13 @@ def set_rooms(mapping: Map, approaches: Mapping[str, Approach]) -> None:
         straight = {(turn.link, turn.lane) for turn in mapping.turns if goes_straight(mapping, turn, approach)}
         before = {link for links in approach.edges_before for link in links}
         for lane_key in approach.lanes:
-            at, approach.rooms[lane_key] = lane_key, approach.metres
-            while sources := [one for one in comes_from[at] if one[0] in before]:
+            place, approach.rooms[lane_key] = lane_key, approach.metres
+            while sources := [one for one in comes_from[place] if one[0] in before]:
                 beside = {other for source in sources for other in leads_to[source]}
-                if at != min(beside, key=lambda one: (one not in straight, one)):
+                if place != min(beside, key=lambda one: (one not in straight, one)):
                     break
-                at = sources[0]
-                approach.rooms[lane_key] += mapping.links[at[0]].metres
+                place = sources[0]
+                approach.rooms[lane_key] += mapping.links[place[0]].metres
 
 
 def goes_straight(mapping: Map, turn: MapTurn, approach: Approach) -> bool:
@@ -224,14 +224,14 @@ class Greens:
 
 def lanes_that_give_way(mapping: Map, plans: Greens) -> set[Place]:
     """The lanes from which some give way at a light: they have green together with others that go before them."""
-    found: set[Place] = set()
+    giving_lanes: set[Place] = set()
     for one in mapping.lit_ways:
         shown = (green for _, command in plans.plans.get(one.node, ()) for _, green in command["phases"])
         phases = {frozenset((link, lane, to) for link, lane, to in green) for green in shown}
         for own, foe, _ in one.yields:
             if any(not green.isdisjoint(one.ways[own]) and not green.isdisjoint(one.ways[foe]) for green in phases):
-                found.update((link, lane) for link, lane, _ in one.ways[own])
-    return found
+                giving_lanes.update((link, lane) for link, lane, _ in one.ways[own])
+    return giving_lanes
 
 
 def ends_and_greens(phases: Sequence[Sequence[Any]]) -> tuple[list[int], dict[Place, list[frozenset[int]]]]:

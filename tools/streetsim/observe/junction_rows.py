@@ -51,9 +51,9 @@ class JunctionTables:
         self.approaches: list[Entry] = []
         self.junctions: list[Entry] = []
         self.filled: set[str] = set()
-        self.found: list[Doubt] = []
-        self.held: set[Doubt] = set()
-        self.before: dict[str, list[Doubt]] = {}  # by approach what its rows of the interval before said
+        self.doubts_found: list[Doubt] = []
+        self.doubts_held: set[Doubt] = set()
+        self.doubts_before: dict[str, list[Doubt]] = {}  # by approach what its rows of the interval before said
 
     def add(self, interval: Interval) -> None:
         """Adds the rows of an interval to all three tables."""
@@ -106,12 +106,12 @@ class JunctionTables:
             for name in (self.mapping.lane_name(*lane) for lane in row.lanes):
                 ratios[name] = max(row.ratio, ratios.get(name, 0.0))
                 spilling |= {name} if row.spills else set()
-        known = self.doubts.at((interval.begin, interval.end), approach.junction, approach.edge)
+        known = self.doubts.around((interval.begin, interval.end), approach.junction, approach.edge)
         held = [one for one in known if one.kind != LANE or ratios.get(one.lane, 0.0) >= SEEN_FULL]
-        self.held.update(one for one in held if one.kind == LANE)
+        self.doubts_held.update(one for one in held if one.kind == LANE)
         found = [replace(one, spills=one.lane in spilling) if one.kind == LANE else one for one in held]
         full = max((row.ratio for row in rows), default=0.0) >= SEEN_FULL
-        before = self.before.pop(approach.edge, []) if full else []
+        before = self.doubts_before.pop(approach.edge, []) if full else []
         return [*found, *(replace(one, why=f"{one.why} in the interval before", end=interval.end) for one in before)]
 
     def own_doubts(
@@ -121,7 +121,7 @@ class JunctionTables:
         more, and a queue that fills the approach (fills_it) and goes on in edges that no table has."""
         at = approach.junction, approach.edge
         usual = Doubt(MOVEMENT, *at, "", ALL, begin=interval.begin, end=interval.end)
-        found = [
+        doubts = [
             replace(
                 usual, target=row.target, why=f"v/c {row.ratio:.2f}", size=round(row.ratio, 2),
                 vehicles=row.lost.vehicles, spills=row.spills,
@@ -131,10 +131,10 @@ class JunctionTables:
         ]
         if fills_it and approach.edge in self.cut:
             why = "its queue goes on in the edges before, which no table has"
-            found.append(replace(usual, kind=APPROACH, why=why))
-        self.found += found
-        self.before[approach.edge] = found
-        return found
+            doubts.append(replace(usual, kind=APPROACH, why=why))
+        self.doubts_found += doubts
+        self.doubts_before[approach.edge] = doubts
+        return doubts
 
     def movement_doubt(self, interval: Interval, approach: Approach, row: MovementRow, own: DoubtsByPlace) -> str:
         """What speaks against a movement's row, of the doubts of its approach (own)."""

@@ -88,8 +88,8 @@ class Junctions(Passages):
             where = "where minor streets wait for each other"
             messages.append(f"junctions: delays are too small {where}: {first_few(facing)}")
         beyond, texts = queues_beyond_messages(sorted(tables.filled.intersection(cut_short)))
-        held = [one for one in doubts if one.kind != LANE or one in tables.held]
-        return messages + beyond, texts, [*held, *joined(tables.found)]
+        held = [one for one in doubts if one.kind != LANE or one in tables.doubts_held]
+        return messages + beyond, texts, [*held, *joined(tables.doubts_found)]
 
 
 def queues_beyond_messages(approaches: list[str]) -> tuple[list[str], list[str]]:

@@ -34,9 +34,9 @@ class LaneGreens(NamedTuple):
 class UtilisationCalculator:
     """What is known of the intervals of a run whose passages have ended."""
 
-    def __init__(self, passages: Passages, shown: ShownPlans, crossed: Crossed, dawdle: float) -> None:
+    def __init__(self, passages: Passages, shown_plans: ShownPlans, crossed: Crossed, dawdle: float) -> None:
         """dawdle: of 1,000."""
-        self.passages, self.shown_plans, self.crossed = passages, shown, crossed
+        self.passages, self.shown_plans, self.crossed = passages, shown_plans, crossed
         slots = {(link, lane): 2 * link + lane for link, lane in passages.lane_keys}
         self.used_links: dict[Place, set[int]] = {key: set() for key in slots}  # the links to which vehicles go from it
         for slot, link in zip(*(column.tolist() for column in np.divmod(crossed.lane_links, SLOTS)), strict=True):
@@ -57,7 +57,7 @@ class UtilisationCalculator:
         self.flow = np.array([rate.flow for rate in rates], float)
         self.lost = np.array([rate.lost for rate in rates], float)
         self.greens: dict[tuple[int, tuple[int, ...]], LaneGreens] = {}  # by node and phases
-        self.giving = lanes_that_give_way(passages.kernel.map, shown.plans)
+        self.giving = lanes_that_give_way(passages.kernel.map, shown_plans.plans)
 
     def saturation_of(self, lane_key: Place) -> Saturation:
         """How a lane passes queues: as it did where there were QUEUES discharges, else as all lanes of the run did

@@ -51,13 +51,13 @@ def junction_picture(runs: Runs, name: str, interval: tuple[int, int]) -> str:
 
 def arms_of(runs: Runs, name: str, interval: tuple[int, int]) -> list[Arm]:
     """The arms of a junction that have a row in an interval."""
-    mapping, found = runs.first_folder.mapping, []
+    mapping, arms = runs.first_folder.mapping, []
     movements = runs.rows.get(("movements", *interval), {})
     for key, row in sorted(runs.rows.get(("approaches", *interval), {}).items()):
         if key[0] == name and key[1] in mapping.links_of:
             own = [one for other, one in sorted(movements.items()) if other[:2] == key]
-            found.append(Arm(key[1], direction(mapping, key[1], -1, -2), lanes_of(mapping, key[1], own), row, own))
-    return found
+            arms.append(Arm(key[1], direction(mapping, key[1], -1, -2), lanes_of(mapping, key[1], own), row, own))
+    return arms
 
 
 def direction(mapping: Map, edge: str, begin: int, end: int) -> float:
@@ -69,15 +69,15 @@ def direction(mapping: Map, edge: str, begin: int, end: int) -> float:
 def lanes_of(mapping: Map, edge: str, movements: Sequence[ResultRow]) -> list[str]:
     """By lane of an edge from the right the movements that SUMO's connections lead to from it, as LT."""
     letter = {row.key[2]: row.movement for row in movements}
-    found: dict[int, set[str]] = {}
+    letters_by_lane: dict[int, set[str]] = {}
     for link in mapping.links_of[edge]:
         for lane in mapping.links[link].lanes:
-            found.setdefault(lane, set())
+            letters_by_lane.setdefault(lane, set())
     for turn in mapping.turns:
         own, target = mapping.links[turn.link], mapping.links[turn.next].edge
         if own.edge == edge and not turn.added and target in letter:
-            found[own.lanes[turn.lane]].add(letter[target])
-    return ["".join(sorted(found[lane], key="ULTR".index)) for lane in sorted(found)]
+            letters_by_lane[own.lanes[turn.lane]].add(letter[target])
+    return ["".join(sorted(letters_by_lane[lane], key="ULTR".index)) for lane in sorted(letters_by_lane)]
 
 
 def right_of(mapping: Map, arms: Sequence[Arm]) -> int:
@@ -97,18 +97,18 @@ def band_of(
 ) -> Iterator[str]:
     """A movement's flow as a band from its arm to where it goes, of the colour of its letter."""
     target, flow = row.key[2], row.means["vehicles_per_hour"]
-    out = Arm(target, direction(runs.first_folder.mapping, target, 0, 1), [])
+    target_arm = Arm(target, direction(runs.first_folder.mapping, target, 0, 1), [])
     begin = arm.point(INNER, side * LANE * len(arm.lanes) / 2)
     lanes = len(runs.first_folder.mapping.links[runs.first_folder.mapping.links_of[target][0]].lanes)
-    end = out.point(INNER, -side * LANE * lanes / 2)
+    end = target_arm.point(INNER, -side * LANE * lanes / 2)
     width, middle = max(LEAST_BAND, WIDEST * flow / greatest), f"{MIDDLE:.0f} {MIDDLE:.0f}"
     told = f"{runs.names.movement(arm.edge, target)}: {flow:.0f} vehicles an hour, {row.delay:.0f} s, {row.letter()}"
     yield (
         f'<path d="M{begin[0]:.1f} {begin[1]:.1f} Q{middle} {end[0]:.1f} {end[1]:.1f}" fill="none" opacity="0.85" '
         f'stroke="{COLOURS[row.letter()]}" stroke-width="{width:.1f}"><title>{escape(told)}</title></path>'
     )
-    if out.edge not in {one.edge for one in arms}:
-        yield quad([out.point(away, -side * aside) for away, aside in box(0.0, LANE * lanes)], "#e8e8e8")
+    if target_arm.edge not in {one.edge for one in arms}:
+        yield quad([target_arm.point(away, -side * aside) for away, aside in box(0.0, LANE * lanes)], "#e8e8e8")
 
 
 def box(low: float, high: float, begin: float = INNER, end: float = OUTER) -> list[tuple[float, float]]:

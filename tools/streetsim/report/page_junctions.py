@@ -57,7 +57,7 @@ def doubt_mark(row: ResultRow) -> str:
 
 def doubted_places(runs: Runs, name: str) -> str:
     """The doubts of a junction and of what belongs to it, as HTML; empty where there are none."""
-    told = [one.told(runs.names) for one in runs.places if one.junction == name]
+    told = [one.in_words(runs.names) for one in runs.places if one.junction == name]
     return f'<p class="doubted">Doubted: {escape("; ".join(told))}.</p>' if told else ""
 
 

@@ -203,8 +203,8 @@ def worst_movements(movements: Sequence[RowChange], runs: Runs) -> list[str]:
 
     worst = max(busy, key=lambda movement: movement.row.delay)
     level, hourly = worst.row.letter(), f"{worst.row.means['vehicles_per_hour']:.0f} vehicles an hour"
-    told = f"{called(worst)}, {worst.row.delay:.0f} s, level of service {level}, {hourly}{doubt_told(worst)}"
-    texts = [f"Longest delay: {told}."]
+    sentence = f"{called(worst)}, {worst.row.delay:.0f} s, level of service {level}, {hourly}{doubt_told(worst)}"
+    texts = [f"Longest delay: {sentence}."]
     losing = [
         (movement.change, movement)
         for movement in busy
@@ -212,8 +212,8 @@ def worst_movements(movements: Sequence[RowChange], runs: Runs) -> list[str]:
     ]
     if losing:
         change, most = max(losing, key=lambda pair: pair[0].change)
-        told = f"{change.mean_after:.0f} s instead of {change.mean_before:.0f} s ({change.in_words()} s)"
-        texts.append(f"Loses most: {called(most)}, {told}{doubt_told(most)}.")
+        sentence = f"{change.mean_after:.0f} s instead of {change.mean_before:.0f} s ({change.in_words()} s)"
+        texts.append(f"Loses most: {called(most)}, {sentence}{doubt_told(most)}.")
     elif any(movement.change and movement.change.half is not None for movement in busy):
         texts.append(f"No movement loses {how_sure(runs.is_drawn)}.")
     return texts
@@ -230,7 +230,7 @@ def doubted(plans: Sequence[Runs], further_doubts: Sequence[str] = ()) -> str:
     for runs in plans:
         doubts, places, names = doubts_of(runs), runs.places, runs.names
         texts += [f"{runs.name} is not to be trusted: {doubt}" for doubt in doubts]
-        texts += [f"{runs.name}: doubted at {one.told(names)}." for one in places[:MOST_PLACES]]
+        texts += [f"{runs.name}: doubted at {one.in_words(names)}." for one in places[:MOST_PLACES]]
         if len(places) > MOST_PLACES:
             left = counted_noun(len(places) - MOST_PLACES, "further place")
             texts.append(f"{runs.name}: {left}: column doubt of its tables of junctions.")

@@ -1,7 +1,6 @@
 """The answer of a report, a councillor's words first: better, worse or undecided, for all, in the worst quarter of an
 hour, and for the worst movement; of works the vehicle-hours, those who pass, and the queue."""
 from collections.abc import Collection, Iterator, Sequence
-from statistics import fmean
 
 from streetsim.base.words import time_of_day
 from streetsim.model.doubts import SPREAD
@@ -77,16 +76,16 @@ def answer(
     to be trusted, or doubted movements have much of the delay there."""
     if trip is None:
         return "Undecided: nobody arrived with both plans."
-    words = trip.word(), (delay or trip).word()
+    verdicts = trip.word(), (delay or trip).word()
     of_worst = "" if len(plans[0].intervals()) < 2 else f" from {time_of_day(worst[0])} to {time_of_day(worst[1])}"
     if trip.half is None:
         return "Undecided: one run of each says nothing of chance (streetsim-run --seeds 1-5)."
     if doubtful := [runs.name for runs in plans if doubts_of(runs) or doubted_share(runs, worst) >= SPREAD]:
-        here = "" if words[0] == UNDECIDED else f"; here it is {words[0]}"
+        here = "" if verdicts[0] == UNDECIDED else f"; here it is {verdicts[0]}"
         return f"Undecided, as what decides is doubted with {' and '.join(map(repr, doubtful))}{here}."
-    if words[0] == words[1] or not of_worst:
-        return f"{words[0].capitalize()}{' for all, and in the worst time,' + of_worst if of_worst else ''}."
-    return f"{words[0].capitalize()} for all, {words[1]} in the worst time,{of_worst}."
+    if verdicts[0] == verdicts[1] or not of_worst:
+        return f"{verdicts[0].capitalize()}{' for all, and in the worst time,' + of_worst if of_worst else ''}."
+    return f"{verdicts[0].capitalize()} for all, {verdicts[1]} in the worst time,{of_worst}."
 
 
 def doubted_share(runs: Runs, interval: Interval) -> float:
@@ -182,17 +181,19 @@ def state_verdict(runs: Runs, interval: Interval) -> str:
 def levels_of(runs: Runs, interval: Interval) -> str:
     """A sentence on the levels of service of junctions in an interval; those that are doubted are not called sure."""
     rows = ranked_rows([runs], interval)
-    sure = [one for one in rows if not one.row.doubt]
-    left = len(rows) - len(sure)
-    doubt = f" Levels of service of {count_in_words(left)} of {counted_noun(len(rows), 'junction')} are doubted."
-    doubt = doubt if left else ""
+    sure = [junction for junction in rows if not junction.row.doubt]
+    doubted_count = len(rows) - len(sure)
+    of_rows = counted_noun(len(rows), "junction")
+    doubt = f" Levels of service of {count_in_words(doubted_count)} of {of_rows} are doubted."
+    doubt = doubt if doubted_count else ""
     if not sure:
         return doubt.strip()
-    bad, worst = sum(one.is_bad for one in sure), max(sure, key=lambda one: (one.row.letter(), one.row.delay))
+    bad = sum(junction.is_bad for junction in sure)
+    worst = max(sure, key=lambda junction: (junction.row.letter(), junction.row.delay))
     letter, name = worst.row.letter(), runs.names.junction_told(worst.key[0])
     if len(rows) == 1:
         return f"{name} has level of service {letter}."
-    other = " other" if left else ""
+    other = " other" if doubted_count else ""
     if not bad:
         return f"Every{other} junction has level of service {letter} or better; the worst is {name}.{doubt}"
     have = f"{'has' if bad == 1 else 'have'} a level of service worse than D; the worst is {letter}, at {name}"

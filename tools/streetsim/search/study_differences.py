@@ -98,15 +98,15 @@ def window_rows(study: Study, outcomes_by_variant: Mapping[str, Sequence[Outcome
         if name == study.base or not variant.works:
             continue
         # Departures that are drawn alike have the same vehicles with and without works.
-        hours = [(one.seconds - other.seconds) / 3600 for one, other in zip(outcomes, base, strict=True)]
+        hours = [(outcome.seconds - other.seconds) / 3600 for outcome, other in zip(outcomes, base, strict=True)]
         mean, half = mean_and_half_width(hours)
-        longest = max(outcomes, key=lambda one: one.works_queue[0])
-        quarters = [one.works_quarter for one in outcomes]
-        worst = max(quarters, key=lambda one: one[0])
-        doubt = "; ".join(dict.fromkeys(one.why for one in variant.places if one.kind == OF_WORKS))
+        longest = max(outcomes, key=lambda outcome: outcome.works_queue[0])
+        quarters = [outcome.works_quarter for outcome in outcomes]
+        worst = max(quarters, key=lambda quarter: quarter[0])
+        doubt = "; ".join(dict.fromkeys(doubt.why for doubt in variant.places if doubt.kind == OF_WORKS))
         yield (
             name, min(begin for _, begin in variant.works), variant.works_end, f"{mean:.1f}",
-            "" if half is None else f"{half:.1f}", f"{fmean(one.works_passed for one in outcomes):.0f}",
+            "" if half is None else f"{half:.1f}", f"{fmean(outcome.works_passed for outcome in outcomes):.0f}",
             f"{longest.works_queue[0]:.0f}", longest.works_queue[1], worst[1],
-            f"{fmean(one[0] for one in quarters):.0f}", doubt,
+            f"{fmean(quarter[0] for quarter in quarters):.0f}", doubt,
         )

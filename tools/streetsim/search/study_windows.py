@@ -9,15 +9,15 @@ from streetsim.control.works_asked import FORM, clock_of
 def with_windows(variants: Mapping[str, Json], clocks: Sequence[int]) -> dict[str, Json]:
     """Variants with each that closes lanes in place of itself at each of some hours: the same works with the first of
     them beginning at a clock, called NAME 7:00, ..; without clocks those of its own close_at, where it has any."""
-    found: dict[str, Json] = {}
+    tables: dict[str, Json] = {}
     for name, table in variants.items():
         own = {key: value for key, value in table.items() if key != "close_at"}
         hours = clocks or (clocks_of(table["close_at"]) if "close_at" in table else ())
         begins = hours if table.get("close") else ()
-        found |= {f"{name} {time_of_day(begin)}": {**own, "close": moved(own["close"], begin)} for begin in begins}
+        tables |= {f"{name} {time_of_day(begin)}": {**own, "close": moved(own["close"], begin)} for begin in begins}
         if not begins:
-            found[name] = own
-    return found
+            tables[name] = own
+    return tables
 
 
 def clocks_of(texts: object) -> list[int]:

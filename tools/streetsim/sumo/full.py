@@ -24,7 +24,7 @@ WAYS = {"l": LEFT_TURN, "r": RIGHT_TURN, "t": TURNAROUND}  # by SUMO's direction
 Movements = Mapping[str, Mapping[int, CrossingMovement]]  # by junction and request, as `movements` gives them
 LaneAndPairs = tuple[FullLane, Collection[EdgePair]]  # and the edge pairs of those who pass it
 Times = tuple[int, int]  # begin and end, seconds
-WHOLE = 0, 0  # times of the whole demand
+WHOLE_DEMAND = 0, 0  # times of the whole demand
 
 
 class OnWay(Protocol):
@@ -48,7 +48,7 @@ def fullness(
     ways, limits_of = ways_of(net), {link.edge: link.limit for link in network.links}
     worst: dict[str, LaneAndPairs] = {}
     parts = ((times, flows, movements(net, limits_of, flows)) for times, flows in flows_of_parts(vehicles))
-    for times, flows, part_movements in chain([(WHOLE, hourly_flows(vehicles), of_demand)], parts):
+    for times, flows, part_movements in chain([(WHOLE_DEMAND, hourly_flows(vehicles), of_demand)], parts):
         note_worst(worst, chain(full_at_lights(part_movements, ways), full_merges(merges, flows)), times)
     return count_passing(worst, vehicles)
 
@@ -57,7 +57,7 @@ def full_lanes_at_lights(net: SumoNet, vehicles: Sequence[OnWay], limits_of: Map
     """The nearly full lanes at lights under the programs of a network, as `fullness` finds them. limits_of: cells a
     step, by edge."""
     ways, worst = ways_of(net), dict[str, LaneAndPairs]()
-    for times, flows in chain([(WHOLE, hourly_flows(vehicles))], flows_of_parts(vehicles)):
+    for times, flows in chain([(WHOLE_DEMAND, hourly_flows(vehicles))], flows_of_parts(vehicles)):
         note_worst(worst, full_at_lights(movements(net, limits_of, flows), ways), times)
     return [one for one, _ in worst.values()]
 

@@ -43,19 +43,21 @@ def ways_of_junction(
     """Who gives way at one node, by all connections of its junction; nobody where no light of it has a program, or it
     is not known who gives way to whom. surveyed: edges that give way to nobody."""
     light = light_of(connections, net)
-    ours = [one for one in connections if one.light in (light, None)]
-    if light is None or any(one.request is None for one in ours):
+    ours = [connection for connection in connections if connection.light in (light, None)]
+    if light is None or any(connection.request is None for connection in ours):
         return LitWays(node, (), ())
     states = [state for program in net.programs_of(light) for _, state in program.phases]
-    signs = {one.request: signs_of(one, states) for one in ours}
+    signs = {connection.request: signs_of(connection, states) for connection in ours}
     number: dict[WayKey, int] = {}
     yields: dict[tuple[int, int], bool] = {}
-    for one, foe in pairs_that_meet([one for one in ours if one.source not in surveyed], ours, net, signs):
-        if turns.get(way_key(one)) and turns.get(way_key(foe)) and way_key(one) != way_key(foe):
-            pair = tuple(number.setdefault(way_key(way), len(number)) for way in (one, foe))
-            beside = one.target == foe.target and one.target_lane != foe.target_lane
+    giving = [connection for connection in ours if connection.source not in surveyed]
+    for connection, foe in pairs_that_meet(giving, ours, net, signs):
+        if turns.get(way_key(connection)) and turns.get(way_key(foe)) and way_key(connection) != way_key(foe):
+            pair = tuple(number.setdefault(way_key(way), len(number)) for way in (connection, foe))
+            beside = connection.target == foe.target and connection.target_lane != foe.target_lane
             yields[pair[0], pair[1]] = beside and yields.get((pair[0], pair[1]), True)
-    stopping = {way_key(one) for one in ours if STOPS_FIRST in signs[one.request] and turns.get(way_key(one))}
+    stopping_first = (connection for connection in ours if STOPS_FIRST in signs[connection.request])
+    stopping = {key for key in map(way_key, stopping_first) if turns.get(key)}
     stops = sorted(number.setdefault(key, len(number)) for key in sorted(stopping, key=str))
     return LitWays(
         node, tuple(tuple(turns[key]) for key in number), tuple((*pair, yields[pair]) for pair in sorted(yields)),
@@ -81,14 +83,14 @@ def pairs_that_meet(
 ) -> Iterator[tuple[NetConnection, NetConnection]]:  # fmt: skip
     """The pairs of one that gives way and one that goes before it, by the junction's requests; not those of which the
     first goes first in all states in which both have green, nor two that wait together. signs: by request."""
-    by_request = {one.request: one for one in all_connections}
-    for one in giving:
-        yields = net.yields.get(net.edges[one.source].end, {})
-        for at in sorted(yields.get(one.request or 0, ())):
+    by_request = {connection.request: connection for connection in all_connections}
+    for connection in giving:
+        yields = net.yields.get(net.edges[connection.source].end, {})
+        for at in sorted(yields.get(connection.request or 0, ())):
             foe = by_request.get(at)
-            is_met = foe is not None and not goes_first(signs[one.request], signs[at])
-            if foe is not None and is_met and not wait_together(one, foe, by_request, yields, signs):
-                yield one, foe
+            is_met = foe is not None and not goes_first(signs[connection.request], signs[at])
+            if foe is not None and is_met and not wait_together(connection, foe, by_request, yields, signs):
+                yield connection, foe
 
 
 def goes_first(own: str, other: str) -> bool:
@@ -99,7 +101,7 @@ def goes_first(own: str, other: str) -> bool:
 
 
 def wait_together(
-    one: NetConnection, foe: NetConnection, by_request: Mapping[int | None, NetConnection], yields: Yields,
+    connection: NetConnection, foe: NetConnection, by_request: Mapping[int | None, NetConnection], yields: Yields,
     signs: Mapping[int | None, str],
 ) -> bool:  # fmt: skip
     """Whether two have permissive greens and each gives way to others of the other's edge, as left turns that face each
@@ -110,5 +112,5 @@ def wait_together(
             other != its.request and other in by_request and by_request[other].source == its.source
             for other in yields.get(own.request or 0, ())
         )
-        for own, its in ((one, foe), (foe, one))
+        for own, its in ((connection, foe), (foe, connection))
     )

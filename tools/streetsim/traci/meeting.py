@@ -58,7 +58,7 @@ class Meeting:
                 selector.register(self.listening, selectors.EVENT_READ)
             while len(self.clients) < self.count:
                 for key, _ in selector.select(self.patience()):
-                    self.hear(key, selector)
+                    self.receive(key, selector)
                 self.drop_silent(selector)
             for newcomer in list(self.newcomers):
                 self.drop(newcomer, selector, "all clients are there")
@@ -70,7 +70,7 @@ class Meeting:
         """Seconds until a connection has had its time; None without any."""
         return max(0.0, self.newcomers[0].last_clock - time.monotonic()) if self.newcomers else None
 
-    def hear(self, key: selectors.SelectorKey, selector: selectors.BaseSelector) -> None:
+    def receive(self, key: selectors.SelectorKey, selector: selectors.BaseSelector) -> None:
         """Takes the next connection, or what one has sent."""
         if key.data is None:
             self.accept(selector)
