@@ -18,6 +18,7 @@ from streetsim.cli.report import path_and_way_back
 from streetsim.model.fullness import STRAIGHT, FullLane, Fullness
 from streetsim.model.names import Names
 from streetsim.model.replications import WORD
+from streetsim.model.rows import part_of_frame
 from streetsim.model.service import COLOURS, WHITE_LETTERS
 from streetsim.model.tables import APPROACHES, JUNCTIONS, MOVEMENTS, SEEDS, TRIPS, write_table
 from streetsim.report.forecast_errors import PAGE, errors_table
@@ -100,7 +101,8 @@ class Numbers(unittest.TestCase):
                  for clock in (290, 300, 600, 610)]  # fmt: skip
         mapping = SimpleNamespace(links=[SimpleNamespace(metres=75.0, cells=10)])
         place = SimpleNamespace(begin=300, end=600, way=[LinkOnWay(0, -45.0, 30.0)], standing=[])
-        note_standing(SimpleNamespace(mapping=mapping, polls=lambda: polls), [place])
+        parts = [(part_of_frame(poll), [{}]) for poll in polls]
+        note_standing(SimpleNamespace(mapping=mapping, polled_parts=lambda: parts), [place])
         self.assertEqual(place.standing, [(300, 0), (300, 15), (600, 0), (600, 15)])
 
     def test_what_is_told_of_a_movement(self):
