@@ -33,7 +33,7 @@ class Words(unittest.TestCase):
         ranked = worst_first([LEFT, replace(LEFT, size=0.9), *others, works])
         self.assertEqual([one.edge for one in ranked], ["a", "a", "d", "c", "e"])
         told = places_told(ranked, self.mapping)
-        self.assertTrue(told.startswith("doubted most of all at works on a, 0:00 to 1:00: demand 1.00 of what the"))
+        self.assertTrue(told.startswith("doubted most of all: works on a, 0:00 to 1:00: demand 1.00 of what the"))
         self.assertIn("at Junction B, 7:00 to 7:15: demand 1.07 of what passes (delay, letter and queue)", told)
         self.assertTrue(told.endswith("; and at 2 other places"))
         self.assertEqual(places_told([], self.mapping), "")
@@ -41,7 +41,7 @@ class Words(unittest.TestCase):
     def test_last_lines(self):
         self.assertEqual(trust.last_line([], [], self.mapping), "")
         told = trust.last_line(["locked"], [LEFT], self.mapping)
-        self.assertTrue(told.startswith("not to be trusted: locked; doubted most of all at "))
+        self.assertTrue(told.startswith("not to be trusted: locked; doubted most of all: "))
         told = trust.last_line_of_seeds({1: [], 2: ["locked", "late"], 3: ["late"]}, [], self.mapping)
         self.assertEqual(told, "not to be trusted: seeds 2, 3: seed 2: locked; late")
         told = trust.last_line_of_seeds({1: [], 2: ["late"]}, [], self.mapping)
@@ -115,7 +115,7 @@ class AtAJunction(Case):
         [left] = [row for row in rows if (row["begin"], row["approach"], row["movement"]) == ("27900", "Nin", "L")]
         self.assertTrue(left["doubt"])
         self.assertIn("Mill Road into Main Street, from the north", last)
-        self.assertIn("doubted most of all at", last)
+        self.assertIn("doubted most of all:", last)
         page = self.folder / "page.html"
         self.tool("report", out, "--interval", 27_900, "-o", page)
         first = page.read_text().partition('id="junctions"')[0]

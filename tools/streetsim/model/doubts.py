@@ -95,7 +95,7 @@ def places_told(doubts: Sequence[Doubt], mapping: Map) -> str:
     told = "; ".join(one.in_words(names) for one in ranked[:MOST_TOLD])
     left = len(ranked) - MOST_TOLD
     more = f"; and at {left:,} other place{'' if left == 1 else 's'}" if left > 0 else ""
-    return f"doubted most of all at {told}{more}"
+    return f"doubted most of all: {told}{more}"
 
 
 def joined(doubts: Iterable[Doubt]) -> Iterator[Doubt]:
