@@ -406,11 +406,11 @@ knowing = 0.5
         told, _ = self.route("--close", "a_0:100-200:0-900", "--iterations", 0, "--gap", 1)
         self.assertRegex(
             told,
-            r"\nnot to be trusted: .*knowing 1: edge a: some [\d,]+ vehicles an hour come to works that "
+            r"\nnot to be trusted: .*knowing 1: works on a: some [\d,]+ vehicles an hour come to works that "
             r"leave 1 of 2 lanes",
         )
         setting = json.loads((self.folder / "out/setting.json").read_text())
-        self.assertRegex(setting["not_trusted"][-1], "^edge a: ")
+        self.assertRegex(setting["not_trusted"][-1], "^works on a: ")
 
 
 del Commands  # whose own tests stand in test_route

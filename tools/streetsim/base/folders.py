@@ -14,9 +14,9 @@ CRITERIA = "criteria.csv"  # which stands for it in those of calibrations
 NAMES = frozenset(
     f"{SETTING} run.jsonl.gz lights.json rows.bin lanes.jsonl.gz counts.csv trips.csv edges.csv detectors.csv "
     "areas.csv queues.csv summary.csv segments.csv routes.csv warnings.csv phases.csv stops.csv works.csv seeds.csv "
-    "movements.csv approaches.csv junctions.csv runs.csv differences.csv differences.png made.json lights.csv "
-    "before-after.csv search.csv before.png after.png iterations.csv check.csv gap.png flows.png before.rou.xml "
-    "knowing.csv flows.csv fit.csv hours.csv groups.csv fit.png pairs.csv candidates.rou.xml "
+    "movements.csv approaches.csv junctions.csv runs.csv differences.csv windows.csv differences.png made.json "
+    "lights.csv before-after.csv search.csv before.png after.png iterations.csv check.csv gap.png flows.png "
+    "before.rou.xml knowing.csv flows.csv fit.csv hours.csv groups.csv fit.png pairs.csv candidates.rou.xml "
     f"contradictions.csv {CRITERIA}".split()
 )
 INSIDE = re.compile(r"seed-\d+|knowing-[\d.-]+")  # folders of results in them, which have such files too
