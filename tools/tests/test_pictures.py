@@ -337,7 +337,7 @@ class Player(Given):
         self.tool("play", self.folder, other, "-o", page)
         text = self.dom(page, 3)
         self.assertEqual((self.shown_in(text)["vehicles"], self.shown_in(text, "other")["standing"]), (1, 3))
-        self.assertIn(">other</div>", text)
+        self.assertIn(">other (not known to be proved)</div>", text)  # no program is named in its setting
         self.assertIn("one run, or two", self.tool("play", *[other] * 3, "-o", page, status=2)[1])
 
     @needs_chromium
