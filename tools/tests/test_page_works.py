@@ -1,6 +1,7 @@
 """Works that are closed by hand in the live page: the same lines at the same clocks as streetsim-run sends."""
 import json
 import unittest
+from unittest import mock
 
 from pages import told_by
 from seen import made
@@ -8,7 +9,7 @@ from support import PROGRAM, Case, needs_simulator
 from streetsim.base import limits
 from streetsim.control.settings import Settings
 from streetsim.live.session import PageSession
-from streetsim.live.world import PageRun
+from streetsim.live.world import PageRun, World
 from streetsim.model.mapping import Map, MapLink
 from streetsim.model.runs import Line, Run
 
@@ -46,6 +47,26 @@ DEEDS = [
 
 @needs_simulator
 class ByHand(Case):
+    def setUp(self):
+        """Keeps the sent lines that the traffics of pages forget, by the traffic."""
+        super().setUp()
+        self.forgotten = {}
+        take_sent = World.take_sent
+
+        def keep_and_take(world):
+            before = list(world.kernel.sent_lines)
+            take_sent(world)
+            forgotten = before[: len(before) - len(world.kernel.sent_lines)]
+            self.forgotten.setdefault(world, []).extend(forgotten)
+
+        patch = mock.patch.object(World, "take_sent", keep_and_take)
+        patch.start()
+        self.addCleanup(patch.stop)
+
+    def sent_by(self, session):
+        """All lines that the present traffic of a session sent beside steps and vehicles."""
+        return [*self.forgotten.get(session.current, ()), *session.current.kernel.sent_lines]
+
     def session(self, run, mapping, **more):
         """The session of a page of a run, begun; more: as Settings has it."""
         session = PageSession(PageRun(run, mapping, Settings(limits.CLOCK, 0, **{"rescue": 0, **more}), PROGRAM))
@@ -67,7 +88,7 @@ class ByHand(Case):
         if back:
             session.go_back(back)
             self.play(session, 900, stride)
-        return [(one.clock, one.line.command) for one in session.current.kernel.sent_lines]
+        return [(one.clock, one.line.command) for one in self.sent_by(session)]
 
     def in_run(self, run, mapping, deeds, until=900):
         """The same of streetsim-run."""
@@ -93,7 +114,7 @@ class ByHand(Case):
         self.play(session, 60)
         session.change("works", [{"clock": 60, "command": DEEDS[0][1]}])
         self.play(session, 900)
-        self.assertEqual([one.line.command for one in session.current.kernel.sent_lines], [DEEDS[0][1]])
+        self.assertEqual([one.line.command for one in self.sent_by(session)], [DEEDS[0][1]])
 
     def works(self, session, **more):
         asked = {"cmd": "close", "link": 0, "lanes": [0], "begin": 370, "end": 530, "from": 0, "until": None}
@@ -105,12 +126,12 @@ class ByHand(Case):
         self.works(session, until=100)
         self.works(session, lanes=[0, 1], begin=0, end=60)
         self.works(session, cmd="reopen", begin=375, end=450)
-        sent = [tuple(one.line.command[name] for name in SPAN) for one in session.current.kernel.sent_lines]
+        sent = [tuple(one.line.command[name] for name in SPAN) for one in self.sent_by(session)]
         self.assertEqual(sent, [("close", 0, 49, 70), ("close", 0, 4, 7), ("close", 1, 4, 7), ("reopen", 0, 50, 59)])
         self.play(session, 101)
         self.assertIn(("reopen", 0, 49, 70), [
             tuple(one.line.command[name] for name in SPAN)
-            for one in session.current.kernel.sent_lines if one.clock == 100
+            for one in self.sent_by(session) if one.clock == 100
         ])
 
     def test_parallel_links_are_refused(self):
@@ -135,7 +156,7 @@ class ByHand(Case):
         ):
             told = told_by(session.change("", [{"clock": 0, "command": command}]))
             self.assertIn(name, told["refused"])
-            self.assertEqual((told["changes"], session.current.kernel.sent_lines), ([], []))
+            self.assertEqual((told["changes"], self.sent_by(session)), ([], []))
 
 
 if __name__ == "__main__":
