@@ -95,16 +95,19 @@ class ByHand(Case):
 class Many(Case):
     """The samples' grid with a junction that is red from 60 s on, so that vehicles are rescued."""
 
+    def import_grid(self):
+        run, mapped = self.folder / "run.jsonl", self.folder / "map.json"
+        self.tool("import", DATA / "grid.net.xml.gz", "--routes", DATA / "grid.rou.xml.gz", "-o", run, "--map", mapped)
+        node = json.loads(mapped.read_text())["signals"]["node"][14]
+        with open(run, "a", encoding="utf-8") as file:
+            file.write(
+                json.dumps({"cmd": "signal", "node": node, "offset": 0, "phases": [[600, []]], "at": 60}) + "\n"
+            )
+
     def run_grid(self, out, *words):
         run, mapped = self.folder / "run.jsonl", self.folder / "map.json"
         if not run.exists():
-            words_ = [DATA / "grid.net.xml.gz", "--routes", DATA / "grid.rou.xml.gz", "-o", run, "--map", mapped]
-            self.tool("import", *words_)
-            node = json.loads(mapped.read_text())["signals"]["node"][14]
-            with open(run, "a", encoding="utf-8") as file:
-                file.write(
-                    json.dumps({"cmd": "signal", "node": node, "offset": 0, "phases": [[600, []]], "at": 60}) + "\n"
-                )
+            self.import_grid()
         arguments = [run, "--map", mapped, "--program", PROGRAM, "--until", 900, "--period", 300, "--rescue", 60]
         return self.tool("run", *arguments, "--out", self.folder / out, *words)
 
@@ -113,7 +116,13 @@ class Many(Case):
             return list(csv.DictReader(file))
 
     def test_counts_are_those_of_the_program(self):
-        """Its own detectors at the ends of lanes see the same vehicles, speeds and seconds."""
+        """Its own detectors at the ends of lanes see the same vehicles, speeds and seconds, where nobody gives way at
+        lights: the program alone knows of no such thing."""
+        self.import_grid()
+        mapped = self.folder / "map.json"
+        content = json.loads(mapped.read_text())
+        self.assertTrue(content.pop("lit_ways"))
+        mapped.write_text(json.dumps(content))
         self.run_grid("one", "--rescue", 0)
         run, mapping = read_with_map(self.folder / "run.jsonl", self.folder / "map.json")
         places = mapping.lanes()

@@ -12,6 +12,7 @@ from concurrent.futures import ThreadPoolExecutor
 from pathlib import Path
 
 from support import DATA, PROGRAM, QUICK, TOOLS, needs_simulator
+from streetsim.base.places import RECORD
 
 LIST = json.loads((DATA / "mutants.json").read_text())
 LONGEST = 120  # seconds that a test may take; one without an end notices the change too
@@ -56,6 +57,9 @@ class Noticed(unittest.TestCase):
             for top in tops:
                 shutil.copytree(TOOLS, top / "tools", ignore=shutil.ignore_patterns("__pycache__", "*.pyc"))
                 shutil.copy(TOOLS.parent / "SECURITY.md", top)  # which a test of limits reads
+                if (record := TOOLS.parent / RECORD).exists():  # without which nothing is sealed
+                    (top / RECORD).parent.mkdir()
+                    shutil.copy(record, top / RECORD)
             self.assertEqual(failing(tops[0] / "tools", *sorted({test for *_, test in LIST}), longest=ALL), "")
 
             def lived(at):
