@@ -41,7 +41,7 @@ class Maps(unittest.TestCase):
         self.assertEqual(map_from("new", value), old)
         self.assertEqual((old.yields[0].foes[0].gap.least, old.yields[0].pace.hidden), (4.0, 6.0))
         self.assertEqual((old.visits[0].starting, old.starts.seconds, old.full.lanes[0].demand), (2.0, 0.5, 0.9))
-        self.assertEqual(value["version"], 2)
+        self.assertEqual(value["version"], 3)
         self.assertEqual(value["links"]["edge"], ["a", "b"])
         nodes = {"junction": ["A", "B", "C"], "x": [0, 75, 150], "y": [0] * 3, "residence": [1] * 3}
         self.assertEqual(value["nodes"], nodes)
@@ -55,7 +55,7 @@ class Maps(unittest.TestCase):
     def test_other_maps_are_refused(self):
         value = self.written()
         for more, told in (
-            ({"version": 3}, "x: a map of version 3, and these tools read 1 and 2: import the run anew"),
+            ({"version": 4}, "x: a map of version 4, and these tools read 1 to 3: import the run anew"),
             ({"turns": {**value["turns"], "lane": []}}, "x: not a map that streetsim-import wrote"),
             ({"turns": {**value["turns"], "colour": [1]}}, "x: not a map that streetsim-import wrote"),
             ({"yields": ["soon"]}, "x: not a map that streetsim-import wrote"),

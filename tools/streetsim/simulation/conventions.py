@@ -36,8 +36,9 @@ class PlainDiscrete:
 class PlainBox:
     """A space of arrays of numbers from low to high."""
 
-    def __init__(self, low: float, high: float, shape: tuple[int, ...], dtype: type = np.float32) -> None:
-        """shape: of the arrays; dtype: of their numbers."""
+    def __init__(self, low: float, high: float, shape: tuple[int, ...], dtype: type | None = None) -> None:
+        """shape: of the arrays; dtype: of their numbers, None: NumPy's float32."""
+        dtype = np.float32 if dtype is None else dtype
         self.low, self.high = np.full(shape, low, dtype), np.full(shape, high, dtype)
         self.shape, self.dtype = shape, dtype
         self.seed(None)
