@@ -25,6 +25,7 @@ MACHINE = "street_base.specs.Outcomes"
 RUNNING = "street_line.specs.Runs"
 RECORD = "street_base.specs.Record"
 KEPT = "street_line.specs.KeptSessions"
+KEPT_LINES = "street_line.specs.Kept"
 WHOLE = Variant("Outcome.Whole")
 # A row about all states, numbers or lists is evaluated at these, as far as its premises leave them free.
 STATES = "street_base.proofs.rows.States"
@@ -57,13 +58,14 @@ def without_end(line):
 @dataclass
 class Served:
     """The reply to each line of a session, none for a blank one; the calls that were made, the reply to each,
-    and the state that they leave; and of each line with steps the line and the blocks of its steps, as the record has
-    them."""
+    and the state that they leave; of each line what a kept session keeps of it, and the blocks of its steps, as the
+    record has them."""
 
     replies: list
     calls: list
     answers: list
     state: object
+    kept: list
     blocks: list
 
 
@@ -83,9 +85,9 @@ class Definitions:
         said, served_line = self.word(RUNNING, "said"), self.word(RUNNING, "served_line")
         fault_line = self.word("street_text.specs.FaultLines", "fault_line")
         entry = self.word("street_desk.specs.History", "entry")
-        served = Served([], [], [], NONE, [])
+        served = Served([], [], [], NONE, [], [])
         for line in lines:
-            what = said(list(line))
+            what, kept, blocks = said(list(line)), b"", b""
             if what.name == "silent":
                 served.replies.append(None)
             elif what.name == "faulty":
@@ -94,11 +96,12 @@ class Definitions:
                 served.replies.append(without_end(served_line(Variant("Served.Full")).parts[0]))
             else:
                 reply, served.state, blocks = self.call(served.state, what.parts[0])
-                if blocks:
-                    served.blocks.append((line, blocks))
+                kept = self.kept(line, reply)
                 served.answers.append(without_end(served_line(Variant("Served.Answered", (reply,))).parts[0]))
                 served.replies.append(served.answers[-1])
                 served.calls.append(entry(0, what.parts[0], WHOLE))
+            served.kept.append(kept)
+            served.blocks.append(blocks)
         return served
 
     def call(self, state, command):
@@ -110,6 +113,10 @@ class Definitions:
             blocks = bytes(self.word(RECORD, "blocks")(command.parts[0], state.parts[0]))
         self.program.forget()
         return reply, after, blocks
+
+    def kept(self, line, reply):
+        """What is kept of a line whose command was answered so."""
+        return bytes(self.word(KEPT_LINES, "entry_of")(self.word(KEPT_LINES, "is_change")(reply), list(line)))
 
     def lines(self, text):
         """The lines of a text, by the definition; for short texts alone, since each line doubles its work."""
@@ -258,8 +265,7 @@ def serve_input(definitions):
 def record_input(definitions):
     """Writes the record of standard input's session."""
     lines = input_lines()
-    for _, blocks in definitions.serve(lines, len(lines)).blocks:
-        sys.stdout.buffer.write(blocks)
+    sys.stdout.buffer.write(b"".join(definitions.serve(lines, len(lines)).blocks))
     return 0
 
 

@@ -8,7 +8,6 @@ are left behind it, as a disk may leave them, or a line of it is spoilt. Compare
 the bytes of the file. Of the first that differs the seed is told; the status is then 1.
 `--program PATH` names the program, and `--top FOLDER` another repository's definitions.
 """
-import argparse
 import random
 import subprocess
 import sys
@@ -17,9 +16,9 @@ from collections.abc import Iterable
 from dataclasses import dataclass
 from pathlib import Path
 
-from definitions import TOP, Definitions, deep_calls
+from definitions import Definitions, deep_calls
 from making import Maker
-from sessions import PROGRAM, WORKERS
+from sessions import WORKERS, seeds_parser
 
 # The definitions take a text apart byte by byte, and keep each of its ends: so long at most are those that are served.
 MOST_BYTES = 4_000
@@ -109,12 +108,7 @@ def compare(program: Path, top: Path, seeds: Iterable[int]) -> tuple[int, str | 
 
 
 def main() -> int:
-    parser = argparse.ArgumentParser(description=__doc__, formatter_class=argparse.RawDescriptionHelpFormatter)
-    parser.add_argument("--count", type=int, default=200)
-    parser.add_argument("--first", type=int, default=0)
-    parser.add_argument("--program", type=Path, default=PROGRAM)
-    parser.add_argument("--top", type=Path, default=TOP)
-    words = parser.parse_args()
+    words = seeds_parser(__doc__, 200).parse_args()
     with deep_calls():
         count, fault = compare(words.program, words.top, range(words.first, words.first + words.count))
     print(fault or f"{count} kept sessions are left as they are defined")

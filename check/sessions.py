@@ -85,7 +85,7 @@ class Comparison:
 
     def of_record(self, lines, served, record):
         """Whether the program replies the same where it writes a record, and the record is the one defined."""
-        steps = [(line, block) for line, blocks in served.blocks for block in blocks_shown(blocks)]
+        steps = [(line, block) for line, blocks in zip(lines, served.blocks) for block in blocks_shown(blocks)]
         text = b"".join(line + b"\n" for line in lines)
         for workers in WORKERS:
             words = ["--workers", str(workers), "--record"]
@@ -265,15 +265,22 @@ def compare_random(words):
     return 1 if fault else 0
 
 
-def main():
-    parser = argparse.ArgumentParser(description=__doc__, formatter_class=argparse.RawDescriptionHelpFormatter)
-    parser.add_argument("--count", type=int, default=300)
-    parser.add_argument("--seconds", type=float)
+def seeds_parser(doc, count):
+    """The words of a check of random sessions: how many (count, where none is given) and from which seed on, the
+    program, and the repository of the definitions."""
+    parser = argparse.ArgumentParser(description=doc, formatter_class=argparse.RawDescriptionHelpFormatter)
+    parser.add_argument("--count", type=int, default=count)
     parser.add_argument("--first", type=int, default=0)
-    parser.add_argument("--file", type=Path)
-    parser.add_argument("--record", action="store_true")
     parser.add_argument("--program", type=Path, default=PROGRAM)
     parser.add_argument("--top", type=Path, default=TOP)
+    return parser
+
+
+def main():
+    parser = seeds_parser(__doc__, 300)
+    parser.add_argument("--seconds", type=float)
+    parser.add_argument("--file", type=Path)
+    parser.add_argument("--record", action="store_true")
     words = parser.parse_args()
     with deep_calls():
         return compare_file(words) if words.file else compare_random(words)

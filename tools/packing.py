@@ -64,7 +64,7 @@ def stem_of(project: dict[str, Any]) -> str:
 
 def sources() -> dict[str, bytes]:
     """The package's files by their paths."""
-    paths = sorted(path for path in (TOP / "streetsim").rglob("*") if path.suffix in (".py", ".html", ".js"))
+    paths = sorted(path for path in (TOP / "streetsim").rglob("*") if path.suffix in (".py", ".html", ".js", ".csv"))
     return {path.relative_to(TOP).as_posix(): path.read_bytes() for path in paths}
 
 

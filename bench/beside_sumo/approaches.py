@@ -102,8 +102,8 @@ def main_shared_lanes(argv: list[str]) -> int | None:
 
     Takes minutes; needs sumo.
 
-    Differences over all cases of a row, each the mean of several seeds; --all: also each case. The first row chose the
-    gap of one alone in streetsim/sumo/gaps.py, the others judge. What SUMO wrote is kept in the folder of --work.
+    Differences over all cases of a row, each the mean of several seeds; --all: also each case. What SUMO wrote is kept
+    in the folder of --work.
     """
     parser = shared.parser_of(main_shared_lanes, work=True)
     parser.add_argument("--seeds", default="1-2")

@@ -221,6 +221,11 @@ def write_greens(path: Path, programs: Iterable[Program]) -> None:
 
 def lost_on(path: Path, layout: Layout) -> dict[Way, tuple[float, float]]:
     """Vehicles and their mean loss, by the last edge of an approach and the next edge."""
+    return {way: (len(values), fmean(values)) for way, values in lost_between(path, layout).items()}
+
+
+def lost_between(path: Path, layout: Layout, seconds: range | None = None) -> dict[Way, list[float]]:
+    """What those lost who left an approach in these seconds, or at all, from where they departed or left a junction."""
     lost = defaultdict(list)
     for vehicle in ElementTree.parse(path).getroot().iter("vehicle"):
         route = vehicle.find("route") if vehicle.find("route") is not None else vehicle.find("routeDistribution/route")
@@ -231,9 +236,10 @@ def lost_on(path: Path, layout: Layout) -> dict[Way, tuple[float, float]]:
                 break
             free += layout.free[edge]
             if edge not in layout.continued:
-                lost[edge, following].append(end - begin - free)
+                if seconds is None or int(end) in seconds:
+                    lost[edge, following].append(end - begin - free)
                 begin, free = end, 0.0
-    return {way: (len(values), fmean(values)) for way, values in lost.items()}
+    return lost
 
 
 def write_queues(network: MadeNetwork, layout: Layout, seed: int) -> Path:

@@ -153,6 +153,21 @@ def cross(draws: Random, folder: Path) -> Draft:
     return Draft([*plain.write(folder), *cycle(draws)], drawn={"pocket": pocket})
 
 
+def lone_light(draws: Random, folder: Path) -> Draft:
+    """A lone light on a street of one or two lanes with pockets, whose side street has pockets or none; left turns wait
+    for gaps, or have an arrow too."""
+    plain, lanes, pocket = Plain(), draws.choice((1, 2, 2)), draws.choice((40, 60, 80))
+    side_pocket, arrow = draws.choice((0, 40, 60)), draws.choice((0, 0, 6))
+    plain.node("c", 0, 0, "traffic_light")
+    for arm, x, y in (("w", -500, 0), ("e", 500, 0), ("n", 0, 400), ("s", 0, -400)):
+        plain.node(arm, x, y)
+        is_main = not y
+        plain.edge(arm, "c", lanes if is_main else 1, 50, 8 if is_main else 4, pocket if is_main else side_pocket)
+        plain.edge("c", arm, lanes if is_main else 1, 50, 8 if is_main else 4)
+    drawn = {"lanes": lanes, "pocket": pocket, "side pocket": side_pocket, "arrow": arrow}
+    return Draft([*plain.write(folder), *cycle(draws), "--tls.left-green.time", str(arrow)], drawn=drawn)
+
+
 def side_streets(plain: Plain, node: str, x: float, lanes: int = 1) -> None:
     for name, y in (("n", SIDE), ("s", -SIDE)):
         plain.node(f"{node}{name}", x, y)

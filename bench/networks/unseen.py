@@ -27,8 +27,8 @@ from networks.lit_streets import (
     without_permissive,
 )
 from networks.streets import (
-    BUS_LANE, Build, Draft, bus_lane, cross, grid, lane_drop, limit, mains, radial, random_town, rings, street,
-    types, zipper,
+    BUS_LANE, Build, Draft, bus_lane, cross, grid, lane_drop, limit, lone_light, mains, radial, random_town, rings,
+    street, types, zipper,
 )
 from shared import SUMO_HOME, run
 
@@ -95,6 +95,7 @@ KINDS: dict[str, Kind] = {
     "actuated-arterial": Kind("an arterial with actuated lights", with_lights(ARTERIAL, "actuated")),
     "actuated-town": Kind("a random town with actuated lights", with_lights(random_town(*GUESSED), "actuated")),
     "delay-town": Kind("a random town with delay-based lights", with_lights(random_town(*GUESSED), "delay_based")),
+    "lone-light": Kind("a lone light with pockets, most left turns permissive", lone_light),
     "nema-cross": Kind("a lone NEMA light", with_lights(cross, "NEMA")),
     "nema-arterial": Kind("an arterial with NEMA lights", with_lights(ARTERIAL, "NEMA")),
     "lane-drop": Kind("a street whose second lane ends, behind a light or without", lane_drop),

@@ -243,7 +243,8 @@ def in_sumo(case, routes, seed, obstacles=None):
 
 def judge(case, routes, args):
     """Mean trips and gaps of routes, here and in SUMO, by the same definition."""
-    from streetsim.cli.route import job_of, parser
+    from streetsim.cli.route import parser
+    from streetsim.cli.routing import job_of
     from streetsim.search.route_search import RouteSearch, relative_gap
     from streetsim.search.route_team import team
     from streetsim.sumo.way_costs import costs_of, mean_observed, nothing_observed

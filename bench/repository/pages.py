@@ -223,7 +223,7 @@ TABLES = (
     Table("routes-new", ROUTES, GOOD, "routes", f"--only 'spider;random' --methods '{ROUTERS}'", 2),
     Table("routes-works", ROUTES, GOOD, "routes", "--works --only town --knowing 0,0.3,1", 5),
     Table("demand", COUNTS, "## Beside SUMO's tools", "demand", "--unseen radial-17149,grid-71347 --most 30000", 3),
-    Table("sumo-scripts", PYTHON, "## Scripts for TraCI", "sumo-scripts", "--seconds 1800 --times 1", 5),
+    Table("sumo-scripts", PYTHON, "## Scripts for TraCI", "sumo-scripts", "--seconds 900 --times 1", 5),
     Table("calibrated", CALIBRATION, GAINS, "calibrated", "--ten --drawn 15074,17244,32762,15049", 60),
     Table("day-intervals", CALIBRATION, "## How often an interval holds", "day-intervals", "", 30),
     Table("day", OUTPUTS, "## Whole days, and rescues", "day", "--junctions 900 --sumo", 25),

@@ -346,9 +346,9 @@ class TrafficLight(ScenarioPart):
 
     def setProgramLogic(self, name: str, phases: Iterable[tuple[float, str]], offset: float = 0) -> list[str]:
         """Sets a light's cycle from the next step on: phases of (seconds, state), and SUMO's offset in seconds, as a
-        tlLogic has them; detectors drive it no more. Of permissive greens the usual share is shown, as flows are not
-        known here. Gives warnings. KeyError for an unknown light, Fault (streetsim.files), after which all is as
-        before, where a state is too short for the light, or the cycle rounds to 0 s or is longer than 200,000 s."""
+        tlLogic has them; detectors drive it no more. Gives warnings. KeyError for an unknown light, Fault
+        (streetsim.files), after which all is as before, where a state is too short for the light, or the cycle rounds
+        to 0 s or is longer than 200,000 s."""
         if not self.scenario.signals_in_force.nodes(name):
             raise KeyError(name)
         return self.scenario.show_program(name, [(seconds, state) for seconds, state in phases], offset)

@@ -26,7 +26,7 @@ from test_route import two_ways
 from test_wauts import changing
 from test_works import fan
 from streetsim.base.program import find_program
-from streetsim.cli import live
+from streetsim.cli import live, serving
 from streetsim.control.works_asked import all_works
 from streetsim.control.works_sites import WorksOptions, with_works
 from streetsim.demand.correcting import LONGEST_AFTER
@@ -270,7 +270,7 @@ def page_session(files):
     asked = live.parser().parse_args([str(files.run), "--map", str(files.map), *feature.words])
     names = tuple(feature.wishes.get("joint", ()))
     program, run_and_map = find_program(None), read_with_map(files.run, files.map)
-    settings = partial(live.page_settings, asked)
+    settings = partial(serving.page_settings, asked)
     more = names, asked.rounds, 1, asked.departures or "listed"
     of, _ = Joining(*run_and_map, files.map, program, settings, *more).page_run()
     session = PageSession(of)

@@ -32,8 +32,9 @@ TRIPS = "".join(f'<trip id="t{at}" depart="{at}" from="WJ1" to="J5E"/>' for at i
 COUNTS = "begin,end,from,to,vehicles\n0,200,WJ1,,40\n"
 TIMES = "segment,begin,end,mean,n\nWJ1>J1J2,25200,28800,40,20\n"
 IMPORT = "import corridor.net.xml.gz --routes corridor.rou.xml --end 120 -o zero.jsonl --map zero.map.json"
+SHEET = "junction --template cross -o cross.csv"
 RUN = "run zero.jsonl --map zero.map.json --until 200 --every 5 --polls --junctions 100 --rounds 0 --out zero"
-# By command the words of a short work, in a folder with what IMPORT and RUN have made.
+# By command the words of a short work, in a folder with what IMPORT, SHEET and RUN have made.
 WORKS = {
     "calibrate": "corridor.net.xml.gz --counts counts.csv --times times.csv -o drivers.json --out calibrated",
     "check": "zero",
@@ -42,6 +43,7 @@ WORKS = {
     "example": "corridor --out examples",
     "export": "zero -o zero.geojson --projection EPSG:32632",
     "import": "corridor.net.xml.gz --routes corridor.rou.xml --end 300 -o other.jsonl --map other.map.json",
+    "junction": "cross.csv --out cross",
     "live": "zero.jsonl --map zero.map.json --no-open",
     "open": "corridor.net.xml.gz corridor.rou.xml --no-open -o opened.html",
     "play": "zero -o zero.html",
@@ -87,7 +89,7 @@ def prepare(folder: Path) -> None:
     texts = {"study.toml": STUDY, "trips.rou.xml": f"<routes>{TRIPS}</routes>", "times.csv": TIMES, "early.csv": COUNTS}
     for name, text in texts.items():
         (folder / name).write_text(text)
-    for words in (IMPORT, RUN):
+    for words in (IMPORT, SHEET, RUN):
         command = [TOOLS / f"streetsim-{words.split()[0]}", *words.split()[1:]]
         subprocess.run(command, cwd=folder, check=True, capture_output=True)
 

@@ -59,12 +59,13 @@ NUMBERED = {
     "seed": 0,
 }
 MAP = {
+    "version": 3,
     "nodes": [["A", 0, 0, 1], ["B", 75, 0, 1], ["C", 150, 0, 1]],
     "links": [["a", [0], 0, 1, 10, 5, 75.0, [[0, 0], [75, 0]]], ["b", [0], 1, 2, 10, 5, 75.0, [[75, 0], [150, 0]]]],
     "turns": [[0, 0, 1, 0, "L", 0, False]],
     "signals": [["L", 1]],
     "cars": [],
-    "options": {"classes": ["passenger"], "permissive": 0.7},
+    "options": {"classes": ["passenger"]},
     "warnings": [],
 }
 RED = {"cmd": "signal", "node": 1, "offset": 0, "phases": [[600, []]]}

@@ -232,7 +232,7 @@ class Reading(unittest.TestCase):
         yellow. At the begin of a run, which has 10 s left of its first phase, the last 10 s of that."""
         shown = NodesOfLight(Driven("L", 0, TWO, 2.0, (), (), ()), SimpleNamespace(links=[]))
         one, other, none = frozenset({(0, 0, 1)}), frozenset({(0, 0, 2)}), frozenset()
-        shown.nodes = [(None, SimpleNamespace(node=7, light="L", turns=[]))]
+        shown.nodes = [SimpleNamespace(node=7, light="L", turns=[])]
         shown.greens_by_second = lambda *_: [none] * 2 + [one] * 40 + [none] * 3 + [other] * 42 + [none] * 3
         ended = [EndedPhase(3, 0, 3, "listed")]
         for at, before, phases in (
@@ -260,7 +260,7 @@ class Reading(unittest.TestCase):
         ):
             light = Driven("L", 0, (Phase("Gg", 20, 5, 50, detectors), Phase("rr", 9, 9, 9)), 2.0, (), (), ())
             shown = NodesOfLight(light, SimpleNamespace(links=[]))
-            shown.nodes = [(None, SimpleNamespace(node=7, light="L", turns=turns))]
+            shown.nodes = [SimpleNamespace(node=7, light="L", turns=turns)]
             spans = [(main, 1, 10), (main, 12, 20), *((left, begin, end) for begin, end in lets.items())]
             rows = [frozenset(turn for turn, begin, end in spans if begin <= at < end) for at in range(29)]
             shown.greens_by_second = lambda *_, rows=rows: rows

@@ -4,12 +4,19 @@ import unittest
 from dataclasses import replace
 
 import support  # noqa: F401, which puts the tools on the path
+from streetsim.control import yielding
 from streetsim.model.folder import Folder
 from streetsim.model.mapping import Map, MapLink, MapNode, MapSignal, MapTurn
+from streetsim.model.names import Names
 from streetsim.report.page_arms import arms_of, junction_picture, lanes_of, right_of
-from streetsim.report.page_verdict import answer, doubted_share, levels_of, worst_interval, worst_movement
+from streetsim.report.page_junctions import lane_bars
+from streetsim.report.page_state import levels_of, state_answer
+from streetsim.report.page_background import ASSUMPTIONS
+from streetsim.report.page_verdict import answer, doubted_share, worst_interval, worst_movement
 from streetsim.report.plan_differences import PlanDifference
 from streetsim.report.run_tables import ResultRow, Runs
+from streetsim.sumo import gaps, lane_capacity
+from streetsim.sumo.greens import USUAL_SPEED, headway
 
 WHEN = 0, 900
 SIGNALS = "signals"
@@ -78,6 +85,16 @@ class Pictures(unittest.TestCase):
         self.assertEqual(junction_picture(runs, "E", WHEN), "")
 
 
+class Assumptions(unittest.TestCase):
+    def test_capacity(self):
+        """The page says the gaps and headways by which runs go, and those of the import's estimate."""
+        [told] = [text for text in ASSUMPTIONS if text.startswith("Capacity")]
+        self.assertIn(f"({yielding.STANDING_GAP} s, and {yielding.ROLLING_GAP} s before one who rolls)", told)
+        self.assertIn(f"gaps of {gaps.CRITICAL_GAP} s, {gaps.FOLLOW_UP} s for each further vehicle", told)
+        self.assertEqual(lane_capacity.SNEAKERS, 1)
+        self.assertIn(f"one in {headway(USUAL_SPEED):.1f} s of green", told)
+
+
 class Answers(unittest.TestCase):
     def plans(self, doubt=""):
         mapping = crossing()
@@ -124,6 +141,40 @@ class Answers(unittest.TestCase):
         doubted.rows["junctions", *WHEN]["E",] = row(("E",))
         told = "Every other junction has level of service B or better; the worst is Junction E. Levels of service of "
         self.assertIn(told, levels_of(doubted, WHEN))
+
+    def test_whether_it_flows(self):
+        """By the junction in the worst interval, then by its movements; undecided where much delay is doubted."""
+        def said(*movements, **junction):
+            """The first sentence of two intervals, of which the second has the junction at its worst."""
+            runs = runs_of(crossing(), *movements)
+            rows = {("C",): row(("C",), **junction)}
+            runs.rows |= {("junctions", 900, 1800): rows, ("movements", 900, 1800): runs.rows["movements", *WHEN]}
+            return state_answer(runs, worst_interval([runs]))
+
+        told = "a vehicle loses 25.0 ± 0.0 s at a junction on average, 30.0 ± 0.0 s in the worst time, 0:15 to 0:30 "
+        told += "(±: 95 % interval of the mean by dawdling alone), and with the worst movement, from the west "
+        told += "to the "
+        self.assertEqual(said(STRAIGHT, delay=30.0), f"It flows: {told}east at Junction C, 20 s (B).")
+        of_left = f"{told}north at Junction C, 90 s (F)."
+        self.assertEqual(said(STRAIGHT, LEFT, delay=30.0), f"It flows, but for single movements: {of_left}")
+        doubted = replace(LEFT, doubt="v/c 1.09")
+        self.assertEqual(
+            said(STRAIGHT, doubted, delay=30.0),
+            f"Undecided, as what decides is doubted; here it flows, but for single movements: {of_left}",
+        )
+        self.assertTrue(said(STRAIGHT, delay=60.0).startswith("It does not flow: a vehicle loses 40.0 ± 0.0 s"))
+
+    def test_bars_by_lane(self):
+        """Movements with the same queues have one bar; a pocket has its own room."""
+        pocket = replace(LEFT, means={**LEFT.means, "queue_50_m": 9.0, "queue_max_m": 80.0, "storage_m": 60.0})
+        pocket.means |= {"full_percent": 12.0, "blocked_percent": 3.0}
+        through = replace(STRAIGHT, means={**STRAIGHT.means, "queue_50_m": 20.0, "queue_max_m": 90.0})
+        right = replace(through, key=("C", "in", "down"), movement="R")
+        bars = list(lane_bars([pocket, through, right], Names(crossing())))
+        self.assertEqual([(one.name, one.room, one.spills) for one in bars], [
+            ("L from the west", 60.0, "full in 12 %, blocked in 3 % of cycles"),
+            ("T R from the west", 100.0, ""),
+        ])
 
     def test_the_worst_movement(self):
         [told] = worst_movement([runs_of(crossing(), STRAIGHT, replace(LEFT, doubt="full"))], WHEN)

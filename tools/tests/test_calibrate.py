@@ -13,6 +13,7 @@ from support import DATA, FORK, PROGRAM, TOOLS, Case, needs_simulator
 from test_counts import needs_scipy
 from streetsim.base.files import Fault
 from streetsim.cli import calibrate, import_
+from streetsim.cli.calibrating import check_words
 from streetsim.demand.calibration_criteria import flow_mark, time_criteria
 from streetsim.demand.calibration_field import (
     TRIP, FieldDay, TravelTime, counts_as_demand, period_in, pooled, read_lanes, read_times,
@@ -232,9 +233,9 @@ class Fields(Case):
         words += ["--out", str(self.folder / "fit"), "--validate"]
         for count in (1, 4):
             with self.subTest(count), self.assertRaisesRegex(Fault, "--validate: .* two or three files"):
-                calibrate.check_words(calibrate.parser().parse_args([*words, *"abcd"[:count]]))
+                check_words(calibrate.parser().parse_args([*words, *"abcd"[:count]]))
         for count in (2, 3):
-            calibrate.check_words(calibrate.parser().parse_args([*words, *"abcd"[:count]]))
+            check_words(calibrate.parser().parse_args([*words, *"abcd"[:count]]))
 
 
 class Words(unittest.TestCase):

@@ -11,19 +11,17 @@ from streetsim.base.report import Report
 from streetsim.model.folder import read_folder
 from streetsim.report.beside_sumo import trip_times_of
 from streetsim.sumo.across import may_turn_on_red
-from streetsim.sumo.crossing import CrossingMovement, set_heads, set_lane, wait_together
+from streetsim.sumo.crossing import CrossingMovement, wait_together
 from streetsim.sumo.driving import driving_of
 from streetsim.sumo.full import full_at_light
-from streetsim.sumo.gaps import gap_capacity, gap_wait, until_first
+from streetsim.sumo.gaps import gap_capacity, until_first
 from streetsim.sumo.greens import green_here, hidden_middle, hidden_start, passing_here, vehicles_leaving
-from streetsim.sumo.heads import Heads, passing_heads
 from streetsim.sumo.import_files import convert
+from streetsim.sumo.lane_capacity import capacity, passing_alone, weights_of_waiting
 from streetsim.sumo.net import NetConnection, NetEdge, SumoNet, request_of, wait_inside
 from streetsim.sumo.network import Options
 from streetsim.sumo.paces import Drivers
-from streetsim.sumo.signals import AS_MAIN, shown_by_gaps
 from streetsim.sumo.way_minor import Minor
-from streetsim.sumo.yielding import lane_here, lane_queue, lane_there, seconds_for, settle, time_of
 
 # SUMO's vehicles a green by case and way, of the demand with seed 1; a tenth or 0.6 of a vehicle off is allowed.
 SUMO = {
@@ -39,8 +37,8 @@ SUMO = {
     "turn lane, straight alone": {"straight": 19.9},
     "turn lane, 20 % left against 300": {"straight": 21.4, "left": 8.8},
 }
-# Where more than a tenth, or 0.6 vehicles, is allowed: two lanes that hold each other up, and few gaps.
-FURTHER = {"60 % left on both sides": 0.18, "left against 600": 0.16}
+# Where more than a tenth, or 0.6 vehicles, is allowed: few gaps, which here are of whole seconds.
+FURTHER = {"left against 600": 0.16}
 
 
 @needs_simulator
@@ -136,14 +134,13 @@ class Formulas(unittest.TestCase):
 TARGETS = {("w", "on"): ("e", 0), ("w", "left"): ("n", 0), ("e", "on"): ("w", 0), ("e", "left"): ("s", 0)}
 
 
-class Lanes(unittest.TestCase):
+class LaneCapacity(unittest.TestCase):
     """A cross of one lane an arm, 42 s of 90 green, each vehicle of a queue 2 s."""
 
     def movement(self, way, lane, flow, runs=()):
         green = (1 << 42) - 1
         runs = {start: 42 for start in runs}
-        sure = 0 if runs else green
-        return CrossingMovement(way, lane, TARGETS[way], 0, 90, sure, green, [(0, 48)], flow, flow, 2.0, 2, runs)
+        return CrossingMovement(way, lane, TARGETS[way], 90, 0 if runs else green, green, [(0, 48)], flow, 2.0, runs)
 
     def lanes(self, *flows):
         """Straight on and left from the west, and from the east, by vehicles an hour."""
@@ -153,32 +150,18 @@ class Lanes(unittest.TestCase):
         )
         for one, foe in ((left, east), (other, west)):
             one.foes = [foe] if foe.flow else []
-            one.meets = {0: [(one.green, tuple(one.foes))]}
-        for one in (west, left, east, other):
-            set_lane(one, (west, left, east, other))
         return west, left, east, other
-
-
-class OneLane(Lanes):
-    """Such lanes, of which lefts from the west wait."""
 
     def test_a_lane_that_never_has_green_is_full(self):
         """As one of a network that sumo-tools ships: 30 an hour wish to pass, and nobody can; one is counted."""
         shut = self.movement(("w", "on"), ("w", 0), 30)
         shut.green = shut.sure = 0
-        set_lane(shut, (shut,))
-        settle([shut])
         ((full_lane, _),) = full_at_light("c", [shut], {shut.pair: "s"})
         self.assertEqual((full_lane.junction, full_lane.demand), ("c", 30.0))
 
-    def test_wait_for_a_gap(self):
-        # (e^1.0833 - 1) * 6 - 6.5 and (e^0.65 - 1) * 10 - 6.5 seconds.
-        self.assertAlmostEqual(gap_wait(600), 5.227, places=3)
-        self.assertAlmostEqual(gap_wait(360), 2.655, places=3)
-        self.assertEqual(gap_wait(0), 0)
-
     def test_wait_without_a_light(self):
-        """For a gap of 6.5 s by Adams' formula, as above; nobody waits where nobody comes, and none for minutes."""
+        """For a gap of 6.5 s by Adams' formula; nobody waits where nobody comes, and none for minutes."""
+        # (e^1.0833 - 1) * 6 - 6.5 and (e^0.65 - 1) * 10 - 6.5 seconds.
         minor, gap = Minor.__new__(Minor), SimpleNamespace(seconds_needed=lambda *_: 6.5)
         minor.foes = {7: [(1, gap), (2, gap)]}
         for flows, wait in (((600, 0), 5.227), ((180, 180), 2.655), ((0, 0), 0), ((3600, 3600), 150)):
@@ -189,113 +172,29 @@ class OneLane(Lanes):
         # Of three with a share of a half: 1/2 + 1/4 + 1/8.
         self.assertEqual([until_first(3, 0.5), until_first(0, 0.5), until_first(5, 1.0)], [0.875, 0, 0])
 
-    def test_time_of_one(self):
-        # Of 360 against, 360 e^-0.45 / (1 - e^-0.25) = 1,037.7 an hour find a gap, one in 3.469 s; one alone takes 2 s
-        # and the wait, 4.655 s. One in five follows another that waited: 0.2 * 3.469 + 0.8 * 4.655.
-        west, left, *_ = self.lanes(80, 20, 360, 0)
-        self.assertEqual((west.waits, left.waits, west.share, left.headway_beside), (False, True, left.share, 2.0))
-        self.assertAlmostEqual(left.share, 0.2)
-        self.assertAlmostEqual(time_of(left, 360), 4.418, places=3)
-        self.assertEqual((time_of(left, 0), time_of(west, 360)), (2.0, 2.0))
-        self.assertGreater(time_of(left, 1e9), 3600)
-
-    def test_seconds_of_a_shared_lane(self):
-        # The queue of 360 leaves in 2 + 48 * 0.2 / 0.8 = 14 s. In these (14 - 0.803) / 2 = 6.599 could pass, and
-        # 0.8 (1 - 0.8^6.599) / 0.2 = 3.083 do; then one in 0.2 * 4.418 + 0.8 * 2 = 2.484 s, 11.274 in 28 s.
-        # Here 22 s at the end let 14.78 pass, 21 s 14.35.
+    def test_lefts_alone(self):
+        # The queue of 360 leaves in 2 + 48 * 0.2 / 0.8 = 14 s. 28 s are left, in which 360 e^-0.45 / (1 - e^-0.25)
+        # = 1,037.7 an hour find a gap, 8.071; and one goes at the end.
         _, left, *_ = self.lanes(80, 20, 360, 0)
-        self.assertAlmostEqual(lane_there(left, 0, 42, 1.0), 14.357, places=2)
-        self.assertAlmostEqual(lane_here(left, 22, 42), 14.778, places=2)
-        self.assertAlmostEqual(lane_here(left, 21, 42), 14.347, places=2)
-        self.assertEqual([seconds_for(left, vehicles, 42) for vehicles in (0, 14.357, 99)], [1, 21, 42])
+        self.assertAlmostEqual(passing_alone(left), 9.071, places=3)
+        _, left, *_ = self.lanes(80, 20, 0, 0)
+        self.assertEqual((passing_alone(left), left.waits), (21.0, False))  # 42 s of 2 s each
+        _, left, *_ = self.lanes(80, 20, 1700, 0)
+        self.assertEqual(passing_alone(left), 1.0)  # the queue takes all of the green
 
-    def test_a_queue_is_of_all_on_its_lane(self):
-        # 240 straight on for 2 s each and 60 to the left for 4.418 s each: 745 s of an hour, 2 + 48 * 0.207 / 0.793
-        # = 14.5 s. Where most turn left, those straight on alone: 60 for 2 s each, 2 + 48 * 0.0333 / 0.9667 = 3.7 s.
-        for on, turning, expected in ((240, 60, 15), (60, 300, 4)):
-            _, left, east, _ = self.lanes(360, 10, on, turning)
-            self.assertEqual(lane_queue(left, east, 1.0).bit_count(), expected)
+    def test_a_shared_lane(self):
+        # Of five four go straight on, 21 in a cycle, one turns left, 9.071: 1 / (0.8 / 21 + 0.2 / 9.071) = 16.627
+        # in a cycle, 665.1 an hour. Nobody waits: 21 in a cycle, 840.
+        west, left, *_ = self.lanes(80, 20, 360, 0)
+        self.assertAlmostEqual(capacity([west, left], 100), 665.1, delta=0.1)
+        self.assertAlmostEqual(capacity([west], 80), 840)
+        self.assertAlmostEqual(weights_of_waiting([west, left])["w", "left"], 21 / 9.071, places=3)
 
-    def test_a_queue_ends_with_its_green(self):
-        _, left, east, _ = self.lanes(80, 20, 1700, 0)
-        self.assertEqual(lane_queue(left, east, 1.0), east.green)
-        self.assertAlmostEqual(lane_there(left, 0, 42, 1.0), 4.0 * (1 - 0.8 ** 20.598) + 1, places=1)  # and one after
-
-
-class OneIndex(Lanes):
-    """Movements that share a letter of the light's state."""
-
-    def shown(self, *those, foes=True, stops=()):
-        """What is shown of the green from second 0 on, of (seconds, parts, seconds before them) of each movement."""
-        made = [self.movement(("w", "left"), ("w", 0), 100, [0]) for _ in those]
-        for one, (seconds, parts, lead) in zip(made, those, strict=True):
-            one.shown_seconds, one.shown_parts = {0: seconds}, parts
-            one.leads, one.stops = {0: lead}, dict.fromkeys(stops, 9)
-            one.foes = made if foes else []
-        return shown_by_gaps(dict(enumerate(made)))[0][0]
-
-    def test_the_most_seconds_are_shown(self):
-        """12 s in one part are more than 8 s in two; of as many seconds those in more parts."""
-        for those, most in (((8, 2, 4), (12, 1, 5)), (12, 1, 5)), (((8, 2, 4), (8, 1, 5)), (8, 2, 4)):
-            self.assertEqual([self.shown(*those), self.shown(*reversed(those))], [most, most])
-
-    def test_one_without_foes_goes_as_if_first(self):
-        """But a red in which it goes after a stop keeps its parts."""
-        self.assertEqual(self.shown((8, 2, 4), foes=False), (8, AS_MAIN, 4))
-        self.assertEqual(self.shown((8, 2, 4), foes=False, stops=[0]), (8, 2, 4))
-
-
-class Heading(Lanes):
-    """Two such lanes that face each other, with left turns on both."""
-
-    def heads(self, *flows):
-        """The lanes, as of lanes, with what their heads know of each other."""
-        found = self.lanes(*flows)
-        for one in found:
-            set_heads(one)
-        return found
-
-    def test_chances_at_the_heads(self):
-        # A fifth of one lane turns left, a half of the other: both come together as left and straight on with chances
-        # of 0.2 * 0.5 and 0.5 * 0.8. One that waits is freed by a left turn alone.
-        _, left, _, other = self.heads(320, 80, 150, 150)
-        for own, waits, freed in ((left, (0.1, 0.4), (0.5, 0.2)), (other, (0.4, 0.1), (0.2, 0.5))):
-            for found, expected in zip((*own.heads.waits, *own.heads.freed), (*waits, *freed), strict=True):
-                self.assertAlmostEqual(found, expected)
-        self.assertEqual((left.opposite, other.opposite, left.heads.headway), (("e", 0), ("w", 0), 2.0))
-        self.assertEqual(left.heads.turned(), Heads(other.heads.waits, other.heads.freed, 2.0))
-
-    def test_who_goes_first_in_its_green_waits_for_nobody(self):
-        # By the bits of the junction those straight on give way to the others, but in their green they go first.
-        found = self.lanes(320, 80, 150, 150)
-        found[0].foes = found[2:]
-        for one in found:
-            set_heads(one)
-        self.assertEqual(found[1].heads, self.heads(320, 80, 150, 150)[1].heads)
-
-    def test_nobody_faces_a_lane_without_left_turns(self):
-        _, left, east, _ = self.heads(320, 80, 300, 0)
-        self.assertEqual((left.heads, east.heads), (None, None))
-
-    def test_passing_at_the_heads(self):
-        # Nobody waits: one in 2 s. Half of the own lane waits for all of the other: of three 1/2 + 1/4 + 1/8 pass.
-        self.assertAlmostEqual(passing_heads(Heads((0.0, 0.0), (1.0, 1.0), 2.0), 41), 20.5)
-        self.assertAlmostEqual(passing_heads(Heads((0.5, 0.0), (0.0, 1.0), 2.0), 6), 0.875)
-        # Half of both turn left. In 2 s both go, 1/2, or the other one waits, 1/4. Of one that waited and is freed, in
-        # 7 s, 2/7 pass in 2 s and 4/7 in 4 s: where the own one waits 1/7 and 5/14 in all, where the other one does
-        # 9/14 and 31/28. So in 4 s 1/2 * 7/4 + 1/4 * 1/7 + 1/4 * 23/14, and in 6 s 1/2 * 65/28 + 1/4 * 5/14
-        # + 1/4 * 59/28.
-        halves = Heads((0.25, 0.25), (0.5, 0.5), 2.0)
-        for seconds, vehicles in ((0, 0), (2, 3 / 4), (4, 37 / 28), (6, 199 / 112)):
-            self.assertAlmostEqual(passing_heads(halves, seconds), vehicles)
-
-    def test_neither_side_takes_all(self):
-        # 400 an hour, 60 % of them to the left: in SUMO both sides pass 11 a green of such, which are 440 an hour.
-        for west, east in ((400, 400), (400, 390), (390, 400)):
-            lanes = self.heads(0.4 * west, 0.6 * west, 0.4 * east, 0.6 * east)
-            settle(lanes)
-            for one, flow in zip(lanes, (west, west, east, east), strict=True):
-                self.assertGreater(sum(each.passing for each in one.sharing), 0.95 * flow)
+    def test_lanes_that_go_apart_hold_each_other(self):
+        # Half of them have green for half of the time: (1 - 1/2)(1 - 1/2^10.5) / (1/2) pass before one of the others.
+        west, left, *_ = self.lanes(50, 50, 0, 0)
+        left.green, left.sure, left.runs = (1 << 21) - 1, (1 << 21) - 1, {}
+        self.assertAlmostEqual(capacity([west, left], 100), (10.5 + 1 - 2 ** -10.5) * 40, delta=0.1)
 
     def test_who_waits_together(self):
         # By request: straight on and left from the west, and from the east. Both left turns give way to the straight
@@ -325,11 +224,11 @@ class Shown(Case):
         for flows in (None, *({("w", "left"): 300, ("e", "straight"): hourly} for hourly in (0, 600, 1200))):
             self.assertEqual(self.greens("cross1", flows)["cn"], 42)
 
-    def test_share_that_is_said(self):
+    def test_share_of_a_surveyed_approach(self):
         """A quarter of 42 s where it is said, also with routes."""
-        self.assertEqual(self.greens("cross1", None, permissive=0.25)["cn"], 42 - round(42 * 0.75))
         flows = {("w", "left"): 300, ("e", "straight"): 600}
-        self.assertEqual(self.greens("cross1", flows, permissive=0.25)["cn"], 42 - round(42 * 0.75))
+        for demand_flows in (None, flows):
+            self.assertEqual(self.greens("cross1", demand_flows, shares=(("wc", 0.25),))["cn"], 42 - round(42 * 0.75))
 
     def test_arrow_after_a_permissive_green(self):
         # Nine seconds of arrow are shown whole, as the gaps before them hold no queue back.

@@ -156,6 +156,25 @@ class Simulator(Case):
         self.assertEqual(sim.lane(10, 0), client.Lane(((0, 10, 4), (2, 0, 0)), (), (), ((20, 24),)))
         self.assertEqual(sim.reopen_lane(10, 0, 20, 24), 0)
 
+    def test_many_at_once(self):
+        """Five of six vehicles still wait after a step; a refusal is raised after all lines were answered."""
+        sim = self.street()
+        for _ in range(6):
+            sim.enter([10])
+        sim.advance()
+        states = [vehicle.state for vehicle in sim.vehicles(range(6))]
+        self.assertEqual(states, ["cell", *["waiting"] * 5])
+        self.assertEqual([lane.closed for lane in sim.lanes([(10, 0)] * 3)], [()] * 3)
+        self.refused(client.NoVehicle, sim.vehicles, [6, 0])
+        self.assertEqual(sim.count().clock, 1)
+
+    def test_fields_that_are_no_whole_numbers(self):
+        """They reach the program as JSON has them, which refuses them."""
+        sim = self.street()
+        for car in (True, 0.5, "0", None):
+            with self.subTest(car=car):
+                self.refused(client.BadCommand, sim.vehicle, car)
+
     def test_each_refusal(self):
         sim = self.enterContext(Client(PROGRAM))
         self.refused(client.NotLoaded, sim.count)

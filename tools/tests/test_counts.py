@@ -20,7 +20,7 @@ from streetsim.demand import checking, correcting, demanding, judging, making, m
 from streetsim.demand.candidates import End, Pair, Way, with_given_routes
 from streetsim.demand.cells import clock_of
 from streetsim.demand.correcting import corrected_counts, full_edges
-from streetsim.demand.fitting import Expecting
+from streetsim.demand.fitting import Expecting, smallest_vehicles
 from streetsim.demand.judging import ComparedCount, differences_of, is_part_of, without_parts
 from streetsim.demand.passing import CountsByEdges, Slices
 from streetsim.demand.pictures import draw_fit
@@ -625,6 +625,25 @@ class Fit(Tool):
         pairs = [Pair(f"from {at}", f"to {at}", {}, {}, *both) for at, both in enumerate(ends)]
         ways = [Way(at, (2 * at, 2 * at + 1), 60.0, 1.0, 60.0, 1.0) for at in range(3)]
         self.assertEqual(Expecting(ways, pairs, Slices((0, 900), False), 0.05).outside.tolist(), [4, 2, 1])
+
+    def test_the_smallest_demand_goes_through_all_counts(self):
+        """Two counts one behind the other; one way through both, one through each. By hand: who may pass both does, and
+        of two counts of one way that differ the firmer one holds."""
+        numpy, scipy = science.numpy_and_scipy()
+        passing = scipy.sparse.csr_matrix([[1.0, 1, 0], [1, 0, 1]])
+        for targets, vehicles in (([100.0, 100.0], [100, 0, 0]), ([100.0, 40.0], [40, 60, 0]), ([0.0, 7.0], [0, 0, 7])):
+            found = smallest_vehicles(passing, numpy.array(targets), numpy.array([5.0, 5.0]))
+            self.assertEqual([round(number) for number in found], vehicles)
+        twice = scipy.sparse.csr_matrix([[1.0], [1.0]])
+        found = smallest_vehicles(twice, numpy.array([100.0, 110.0]), numpy.array([1.0, 9.0]))
+        self.assertEqual([round(number) for number in found], [100])
+
+    def test_the_smallest_demand_is_of_counts_alone(self):
+        counts = self.write("c.csv", HEAD + "0,900,a,b,30\n0,900,a,c,10\n")
+        out, _ = self.demand(FORK, "--counts", counts, "--smallest")
+        self.assertIn("40 vehicles from 0 to 900 s", out)
+        with self.assertRaisesRegex(Fault, "--smallest is of counts alone"):
+            self.demand(FORK, "--smallest", "--flows", counts)
 
     def test_pairs_without_a_way_are_told(self):
         """Those of a matrix that no way joins."""

@@ -3,9 +3,13 @@ import csv
 import json
 import re
 import unittest
+from contextlib import redirect_stderr
+from io import StringIO
 from pathlib import Path
 
 from support import DATA, FORK, PROGRAM, Case, needs_simulator
+from streetsim.cli.import_ import parser as import_parser
+from streetsim.cli.importing import drivers_of
 from streetsim.demand.calibration_field import TRIP
 from streetsim.demand.compared_times import ComparedTime, are_close, lines_of_times
 from streetsim.model.fullness import LEFT_TURN, STRAIGHT, FullLane
@@ -46,12 +50,16 @@ class Imported(Case):
         for pair in (("wc", "ce"), ("ec", "cs"), ("ec", "cw")):
             self.assertEqual(self.greens(*surveyed, *pair), self.greens(*usual, *pair), pair)
         self.assertEqual(surveyed[1].options["shares"], [["wc", 0.4]])
-        self.assertIsNone(surveyed[1].options["permissive"])
 
-    def test_one_share_is_of_all(self):
-        made = self.imported("--permissive", "0.5,wc=0.4")
-        self.assertEqual(self.greens(*made, "ec", "cs"), GREEN // 2)
-        self.assertEqual(self.greens(*made, "wc", "cn"), GREEN - round(0.6 * GREEN))
+    def test_one_share_of_all_does_nothing_and_is_told(self):
+        """As an option of earlier versions; that of an approach beside it counts."""
+        with redirect_stderr(StringIO()) as said:
+            made = drivers_of(import_parser().parse_args(["net.xml", "--permissive", "0.5,wc=0.4"]))
+        self.assertEqual(made["shares"], (("wc", 0.4),))
+        self.assertEqual(
+            said.getvalue(), "--permissive 0.5 has no effect any more: who gives way at a light goes by who comes; "
+            "EDGE=SHARE keeps a survey's share\n",
+        )  # fmt: skip
 
     def test_seconds_are_cut_from_each_green(self):
         """As many as the node's part of the fraction says; below 0 of 3 s of yellow all but one at most."""
@@ -80,8 +88,8 @@ class Imported(Case):
 
     @needs_simulator
     def test_a_plan_of_a_study_loads_lefts_as_its_import_would(self):
-        """18 s of green for the street with the lefts in place of 42."""
-        states = (18, "rrrGGgrrrGGg"), (3, "rrryyyrrryyy"), (66, "GGgrrrGGgrrr"), (3, "yyyrrryyyrrr")
+        """15 s of green for the street with the lefts in place of 42."""
+        states = (15, "rrrGGgrrrGGg"), (3, "rrryyyrrryyy"), (69, "GGgrrrGGgrrr"), (3, "yyyrrryyyrrr")
         phases = "".join(f'<phase duration="{seconds}" state="{state}"/>' for seconds, state in states)
         light = f'<tlLogic id="c" type="static" programID="short" offset="0">{phases}</tlLogic>'
         plan = self.write("short.add.xml", f"<additional>{light}</additional>")

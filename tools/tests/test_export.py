@@ -135,7 +135,7 @@ class Files(Given):
                 self.assertIn(told, self.tool("export", *words, status=2)[1])
                 self.assertFalse((self.folder / "x.geojson").exists())
         words = (self.folder, "-o", self.folder / "x.shp")
-        self.assertIn("ends with .geojson or .gpkg", self.tool("export", *words, status=2)[1])
+        self.assertIn("ends with .geojson, .gpkg or .xlsx", self.tool("export", *words, status=2)[1])
 
     def test_a_projection_told_by_hand(self):
         self.write_setting({"offset": [-500000.0, 0.0], "projection": "!"})

@@ -15,7 +15,8 @@ from pathlib import Path
 
 from support import PROGRAM, TOOLS, Case, needs_proved
 from streetsim.base.files import Fault
-from streetsim.cli import check, import_, report, run
+from streetsim.cli import check, checked_targets, import_, report, run
+from streetsim.cli.checked_targets import remake_page
 from streetsim.report import page_seal as sealing
 from streetsim.report.page_seal import BEGIN, END, PACK, canonical, packed, seal_of, sum_of, unpacked
 
@@ -102,7 +103,7 @@ PAGES = {
     "a junction has another letter": (changed(section("map") + r'class="letter">([A-F])<', "F"), "Where"),
     "a junction is gone": (changed(section("map") + r"(<a href=.*?</a>)", ""), "Where"),
     "a queue has a longer bar": (changed(section("details") + r'<rect [^>]*?width="(\d+)', digit), "Junctions in"),
-    "a queue has another number": (changed(section("details") + r'<text x="646"[^>]*>(\d+)', digit), "Junctions in"),
+    "a queue has another number": (changed(section("details") + r'<text x="516"[^>]*>(\d+)', digit), "Junctions in"),
     "a way of the corridor": (changed(section("corridor") + r'<path d="M\d+\.\d,(\d+)', digit), "Corridor"),
     "all ways of the corridor": (changed(section("corridor") + r'(<path d="[^"]*" fill="none".*?</path>)', ""), "Corr"),
     "a red of the corridor": (changed(section("corridor") + r'(<path d="[^"]*" stroke="#000" .*?/>)', ""), "Corridor"),
@@ -152,8 +153,8 @@ class Pages(Page):
         super().setUp()
         if not hasattr(type(self), "anew"):
             words = check.parser().parse_args([str(self.page), "--program", PROGRAM])
-            type(self).anew = check.remake_page(words, self.seal)
-        again = unittest.mock.patch.object(check, "remake_page", self.remake_page)
+            type(self).anew = remake_page(words, self.seal)
+        again = unittest.mock.patch.object(checked_targets, "remake_page", self.remake_page)
         again.start()
         self.addCleanup(again.stop)
 
@@ -273,7 +274,7 @@ REFUSED = {
     "seeds that are none": (with_plan(seeds=[]), "has no seeds"),
     "seeds that are texts": (with_plan(seeds=["<b>"]), "it says other things"),
     "more than a seal says": (with_content(saves=47_000), "it says other things"),
-    "a form to come": (with_content(form=3), "it has the form 3, and these tools know 2"),
+    "a form to come": (with_content(form=4), "it has the form 4, and these tools know 3"),
     "no plan": (with_content(plans=[]), "a sealed file is called"),
     "a file beside that is not there": (with_content(beside=[MAP]), "x.sealed.zip: the file beside .* cannot be read"),
     "bytes behind a packed file": (with_pack(lambda data: data + b"9"), f"the sealed file {MAP} cannot be read"),

@@ -12,7 +12,7 @@ from support import TOOLS, Case, needs_simulator
 from streetsim.base import unpacking
 from streetsim.base.files import Fault, elements, open_bytes
 from streetsim.base.unpacking import lines_of, refuse_bomb, refuse_crowded
-from streetsim.cli.check import PAGE_BYTES_AT_MOST
+from streetsim.cli.checked_targets import PAGE_BYTES_AT_MOST
 from streetsim.report.page_seal import MOST_BYTES
 from streetsim.search.study_variants import MOST_DOTS, MOST_VARIANTS
 

@@ -20,8 +20,8 @@ from streetsim.base import program
 from streetsim.base.program import BUILT, MARK, UNPROVED, find_program, is_marked
 
 COMMANDS = (
-    "calibrate", "check", "compare", "demand", "example", "export", "import", "live", "open", "play", "plot",
-    "report", "route", "run", "signals", "study", "sumo",
+    "calibrate", "check", "compare", "demand", "example", "export", "import", "junction", "live", "open",
+    "play", "plot", "report", "route", "run", "signals", "study", "sumo",
 )
 PIP = [sys.executable, "-m", "pip"] if find_spec("pip") else [shutil.which("pip")] if shutil.which("pip") else None
 
@@ -62,6 +62,9 @@ class Install(Case):
         ]
         told = subprocess.run(words, env=variables, capture_output=True, text=True, check=True).stderr
         self.assertIn("2 nodes, 1 links, 0 turns, 0 signals, 0 vehicles", told)
+        words = [place / "bin/streetsim-junction", "--template", "tee", "-o", self.folder / "tee.csv"]
+        subprocess.run(words, env=variables, check=True, capture_output=True)
+        self.assertIn("JUNCTIONS", (self.folder / "tee.csv").read_text(encoding="utf-8"))
 
 
 @needs_package("python3-pip", PIP)

@@ -429,9 +429,9 @@ class ByHand(unittest.TestCase):
         does a v/c near 1; a doubt of another time does not."""
         mapping, interval = map_from("", MAP), judged(FRAMES, self.plans)
 
-        def doubts(*doubts, uses=None):
+        def doubts(*doubts, uses=None, giving=()):
             """The doubts of movement, approach and junction."""
-            made = JunctionTables(approaches_of(mapping), mapping, doubts)
+            made = JunctionTables(approaches_of(mapping), mapping, doubts, giving=giving)
             made.add(replace(interval, uses=uses or interval.uses))
             return [rows[0][-1] for rows in (made.movements, made.approaches, made.junctions)]
 
@@ -441,11 +441,13 @@ class ByHand(unittest.TestCase):
 
         full = {(0, 0): 0.87}
         self.assertEqual(doubts(), ["", "", ""])
-        self.assertEqual(doubts(lane(0.85), uses=full), ["demand 0.85 of what passes"] * 3)
+        self.assertEqual(doubts(lane(1.07), uses=full), ["v/c 0.87"] * 3, "not the import's estimate")
         self.assertEqual(doubts(lane(0.85)), ["", "", ""], "the run shows a v/c of 0.46")
         self.assertEqual(doubts(lane(0.85, name="a_1"), uses=full), ["", "", ""])
         self.assertEqual(doubts(lane(0.85, 9_000, 9_900), uses=full), ["", "", ""])
         self.assertEqual(doubts(uses={(0, 0): 0.93}), ["v/c 0.93"] * 3)
+        self.assertEqual(doubts(uses={(0, 0): 0.83}), ["", "", ""])
+        self.assertEqual(doubts(uses={(0, 0): 0.83}, giving=[(0, 0)]), ["v/c 0.83"] * 3)
         made = JunctionTables(approaches_of(mapping), mapping)
         for use in (0.93, 0.87, 0.87):
             made.add(replace(interval, uses={(0, 0): use}))

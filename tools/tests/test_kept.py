@@ -354,11 +354,11 @@ class Placed(ProgramCase):
         self.assertEqual(done.stderr, "streetsim: cannot write a.jsonl\n")
 
 
-class Readme(ProgramCase):
-    def test_the_five_lines_of_the_readme(self):
+class Page(ProgramCase):
+    def test_the_five_lines_of_the_page(self):
         """As printed, but for the program's place and a shorter sleep."""
-        text = (EXAMPLES.parent / "README.md").read_text()
-        lines = re.search(r"outlives `kill -9`.*?```sh\n(.*?)```", text, re.S)[1]
+        text = (EXAMPLES.parent / "docs/LINES.md").read_text()
+        lines = re.search(r"by `kill -9` or.*?```sh\n(.*?)```", text, re.S)[1]
         self.assertEqual(lines.count("\n"), 5)
         script = lines.replace("./streetsim", PROGRAM).replace("examples/", f"{EXAMPLES}/")
         script = script.replace("sleep 9", "sleep 2").replace("sleep 3", "sleep 1")

@@ -14,10 +14,10 @@ from support import TOOLS, Case
 # users' own programs, and begin a run by the words of the command streetsim-import.
 LAYERS = (
     *("base", "model", "report", "sumo", "kernel", "control", "observe"),
-    *("search", "demand", "live", "cli", "simulation", "scenario", "traci", "env"),
+    *("search", "demand", "sheet", "live", "cli", "simulation", "scenario", "traci", "env"),
     *("client", "files"),  # base's, by the names that users' programs have for them
 )
-MOST_PACKAGES = 13
+MOST_PACKAGES = 14
 MOST_ARGUMENTS = 7
 FIRST_OF_RUNS = LAYERS.index("sumo")
 

@@ -66,7 +66,7 @@ class Open(Case):
         self.small()
         for words, told in (
             (["none.net.xml"], "none.net.xml: No such file or directory"),
-            (["x.rou.xml"], "x.rou.xml: no network (.net.xml), configuration (.sumocfg), run (.jsonl) or folder"),
+            (["x.rou.xml"], "x.rou.xml: no network (.net.xml), map (.osm), configuration (.sumocfg), run (.jsonl)"),
             (["x.net.xml"], "x.net.xml: a network without routes: name them behind it, or give --vehicles N"),
             (["x.net.xml", "x.rou.xml", "--vehicles", 9], "--vehicles is for a network without routes"),
             (["."], "no routes"),

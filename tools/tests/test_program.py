@@ -4,7 +4,6 @@ What is wanted is told by docs/LINES.md, docs/help.txt and examples/ (stored ses
 """
 import json
 import os
-import re
 import resource
 import shutil
 import signal
@@ -92,14 +91,6 @@ class Input(ProgramCase):
                 with self.subTest(session=session.stem, workers=workers):
                     told = self.ends(["--workers", workers], session.read_text())
                     self.assertEqual(told, session.with_suffix(".out").read_text())
-
-    def test_the_table_of_the_readme_is_a_session(self):
-        rows = re.findall(r"^\| `(\{.*?\})`[^|]*\| `(\{.*\})` \|$", (TOP / "README.md").read_text(), re.M)
-        self.assertGreater(len(rows), 10)
-        load = PLANNER.read_text().splitlines()[0]
-        lines = [load, *(line for line, _ in rows[1:])]
-        self.assertTrue(rows[0][0].startswith('{"cmd":"load"'))
-        self.assertEqual(self.ends([], "\n".join(lines)), "".join(f"{reply}\n" for _, reply in rows))
 
     def test_no_input_gives_no_reply(self):
         self.assertEqual(self.ends([]), "")

@@ -1,5 +1,4 @@
 """The report of runs: differences by hand, what the page says, and how Chromium shows and prints it."""
-import base64
 import html
 import json
 import re
@@ -7,7 +6,6 @@ import shutil
 import subprocess
 import unittest
 from dataclasses import asdict, replace
-from importlib.util import find_spec
 from types import SimpleNamespace
 from unittest import mock
 
@@ -15,7 +13,10 @@ from support import MAP, PROGRAM, TOOLS, Case, needs_package, needs_simulator
 from streetsim.base.files import Fault
 from streetsim.cli import report
 from streetsim.cli.report import path_and_way_back
+from streetsim.model.doubts import ALL, MOVEMENT, Doubt
+from streetsim.model.folder import Folder
 from streetsim.model.fullness import STRAIGHT, FullLane, Fullness
+from streetsim.model.mapping import map_from
 from streetsim.model.names import Names
 from streetsim.model.replications import WORD
 from streetsim.model.rows import part_of_frame
@@ -23,13 +24,13 @@ from streetsim.model.service import COLOURS, WHITE_LETTERS
 from streetsim.model.tables import APPROACHES, JUNCTIONS, MOVEMENTS, SEEDS, TRIPS, write_table
 from streetsim.report.forecast_errors import PAGE, errors_table
 from streetsim.report.page_choice import RowChange
-from streetsim.report.page_drawings import anchor, letter_mark, queue_picture
+from streetsim.report.page_drawings import QueueBar, anchor, letter_mark, queue_picture
 from streetsim.report.page_junctions import doubt_mark
-from streetsim.report.page_summary import groups_table, trips_told
-from streetsim.report.page_verdict import state_verdict
+from streetsim.report.page_state import state_verdict
+from streetsim.report.page_summary import groups_table, places_table, trips_told, why
 from streetsim.report.plan_costs import PlanCosts
 from streetsim.report.plan_differences import difference_of, mean_delays
-from streetsim.report.run_tables import ResultRow, of_most, read_runs
+from streetsim.report.run_tables import ResultRow, Runs, of_most, read_runs
 from streetsim.report.works_queues import LinkOnWay, note_standing
 
 CHROMIUM = shutil.which("chromium") or shutil.which("chromium-browser")
@@ -120,19 +121,22 @@ class Numbers(unittest.TestCase):
         self.assertEqual([one.changes_noticeably for one in (row("C", seconds=4.9), row("D"))], [False] * 2)
 
     def test_queues(self):
-        """Bars of 480 pixels for the longest: 75 of 150 m are 240. A full edge has the gap behind its last vehicle."""
+        """Bars of 350 pixels for the longest: 75 of 150 m are 175. A full lane has the gap behind its last vehicle."""
         rows = [("a", 30, 75, 147.5, 150), ("b", 0, 0, 0, 75), ("c", 9, 9, 140, 150), ("d", 9, 9, 196.7, 199.2)]
-        picture = queue_picture([*rows[:3], ("d", 0, 0, 0, 2)])
-        self.assertIn('width="240.0" height="12" fill="#9ecae1"', picture)
-        self.assertIn("30, 75, 148 of 150 m, fills the edge", picture)
-        self.assertEqual(picture.count("fills"), 1)
-        self.assertEqual(queue_picture(rows).count("fills"), 2)
+        bars = [QueueBar(*one) for one in rows]
+        picture = queue_picture([*bars[:3], QueueBar("d", 0, 0, 0, 2)])
+        self.assertIn('width="175.0" height="12" fill="#9ecae1"', picture)
+        self.assertIn("30, 75, 148 of 150 m, filled once", picture)
+        self.assertEqual(picture.count("filled"), 1)
+        self.assertEqual(queue_picture(bars).count("filled"), 2)
+        spilling = bars[1]._replace(spills="full in 4 % of cycles")
+        self.assertIn("of 75 m, full in 4 % of cycles", queue_picture([spilling]))
 
     def test_names_before_bars_have_room(self):
-        """Of 40 letters at 7 pixels: 280 pixels, and 630 are left for names and bars."""
-        picture = queue_picture([("along the long street, from the north-east"[:40], 0, 0, 0, 100)])
+        """Of 40 letters at 7 pixels: 280 pixels, and 500 are left for names and bars."""
+        picture = queue_picture([QueueBar("along the long street, from the north-east"[:40], 0, 0, 0, 100)])
         self.assertIn('<text x="280"', picture)
-        self.assertIn('<rect width="350.0" height="18"', picture)
+        self.assertIn('<rect width="220.0" height="18"', picture)
 
     def test_letters_in_grey(self):
         """Each letter is darker than the better one, and its writing has the contrast 4.5 that WCAG 2 asks for."""
@@ -195,6 +199,27 @@ class Marks(unittest.TestCase):
         marked, usual = (ResultRow(("B",), "signals", "", {"control_delay_s": 9.0}, {}, why) for why in ("<full>", ""))
         self.assertIn("doubted: &lt;full&gt;", doubt_mark(marked))
         self.assertEqual(doubt_mark(usual), "")
+
+    def test_why_a_place_is_doubted(self):
+        """A councillor's words first; what has no size has its own."""
+        said = {1.2: "more wish to pass than can (v/c 1.20)", 0.93: "nearly as many wish to pass as can (v/c 0.93)"}
+        for size, told in said.items():
+            self.assertIn(told, why(Doubt(MOVEMENT, "B", "a", f"v/c {size:.2f}", ALL, target="b", size=size)))
+        self.assertEqual(why(Doubt(MOVEMENT, "B", "a", "two rescues", ALL)), "two rescues")
+
+    def test_doubted_places_of_two_plans(self):
+        """Of each place the worst, with the plans that have it."""
+        one = Doubt(MOVEMENT, "B", "a", "v/c 0.93", ALL, target="b", size=0.93, vehicles=9)
+        mapping = map_from("", MAP)
+        plans = [
+            Runs(name, {1: Folder("x", mapping, [], 0, 0, 900, places=places)})
+            for name, places in (("before", [one]), ("after", [replace(one, why="v/c 1.20", size=1.2)]))
+        ]
+        text = places_table(plans)
+        self.assertEqual(text.count("<tr>"), 2)
+        self.assertIn("before and after", text)
+        self.assertIn("(v/c 1.20)", text)
+        self.assertEqual(places_table([Runs("a", {1: Folder("x", mapping, [], 0, 0, 900)})]), "")
 
     def test_a_doubt_of_some_seeds(self):
         """Of less than half of the runs it is none."""
@@ -262,7 +287,7 @@ class Pages(Given):
         self.assertIn("<li>Departures as listed: the seeds differ by dawdling alone, so nothing is sure", text)
         self.assertIn("± is the 95 % interval of the mean change by dawdling alone", text)
         alone = self.page(self.plans()[0]).read_text()
-        told = "delay at a junction is 92.0 ± 25.4 s in the worst time, 0:00 to 0:15 (±: 95 % interval of the mean by "
+        told = "junction on average, 92.0 ± 25.4 s in the worst time, 0:00 to 0:15 (±: 95 % interval of the mean by "
         self.assertIn(told + "dawdling alone)", alone)
 
     def test_drawn_runs_have_two_intervals(self):
@@ -282,7 +307,7 @@ class Pages(Given):
             self.assertIn(told, text)
         self.assertNotIn("as listed", text)
         alone = self.page(self.plans()[0]).read_text()
-        told = "delay at a junction is 92.0 ± 25.4 s in the worst time, 0:00 to 0:15 (±: 95 % interval of the mean)"
+        told = "junction on average, 92.0 ± 25.4 s in the worst time, 0:00 to 0:15 (±: 95 % interval of the mean)"
         self.assertIn(told, alone)
 
     def test_runs_of_other_vehicles_are_not_compared(self):

@@ -15,11 +15,11 @@ from types import SimpleNamespace
 from support import DATA as SAMPLES
 from support import MAP, PROGRAM, TOOLS, Case, needs_proved
 from streetsim.base.files import Fault
-from streetsim.cli.check import remake_page
+from streetsim.cli.checked_targets import remake_page
 from streetsim.report import page_seal as sealing
 from streetsim.report.folder_differences import ComparedNumbers, folder_differences
 from streetsim.report.page_elements import numbers_in, page_mismatches
-from streetsim.report.page_seal import BEGIN, END, PACK, packed, seal_of, sum_of, unpacked
+from streetsim.report.page_seal import BEGIN, END, FORM, PACK, packed, seal_of, sum_of, unpacked
 from streetsim.report.page_sealing import sealed_plan
 from streetsim.report.run_tables import read_folders
 
@@ -109,7 +109,7 @@ class Missing(Case):
     def test_parts_of_a_seal(self):
         plan = {"name": "", "run": "plan-1/x", "map": "plan-1/map.json", "words": [], "again": [], "seeds": [1]}
         plan = {**plan, "several": False, "program": ""}
-        whole = {"form": 2, "plans": [plan], "files": {"plan-1/x": "a" * 64, "plan-1/map.json": "b" * 64}}
+        whole = {"form": FORM, "plans": [plan], "files": {"plan-1/x": "a" * 64, "plan-1/map.json": "b" * 64}}
         whole = {**whole, "words": [], "beside": [], "tools": "0" * 64}
         found = seal_of("x.html", BEGIN + json.dumps(whole) + END)
         self.assertEqual(found.content["plans"], whole["plans"])
@@ -119,12 +119,17 @@ class Missing(Case):
             with self.subTest(name), self.assertRaisesRegex(Fault, r"cannot be read \(.*\): the page was changed"):
                 seal_of("x.html", BEGIN + json.dumps(less) + END)
 
-    def test_a_page_of_the_form_before(self):
-        content = {"plans": [], "files": {}, "packs": {}, "words": [], "beside": [], "tools": "", "drawn_by": "3.6.3"}
-        page = self.write("old.html", BEGIN + json.dumps(content) + END)
-        status, told = tool("check", page, "--program", "/bin/true")
-        self.assertEqual((status, told.count("\n")), (2, 1))
-        self.assertIn("sealed in the form of streetsim 1.0.0: that version checks it", told)
+    def test_a_page_of_an_earlier_form(self):
+        """It is told by which tools it is checked."""
+        first = {"plans": [], "files": {}, "packs": {}, "words": [], "beside": [], "tools": "", "drawn_by": "3.6.3"}
+        for content, whose in (
+            (first, "sealed in the form of streetsim 1.0.0: that version checks it"),
+            ({"form": 2, **first}, "sealed in form 2, by the tools up to commit da17d40c, in which who gives way"),
+        ):
+            page = self.write("old.html", BEGIN + json.dumps(content) + END)
+            status, told = tool("check", page, "--program", "/bin/true")
+            self.assertEqual((status, told.count("\n")), (2, 1))
+            self.assertIn(whose, told)
 
     def test_programs_of_lights_that_cannot_be_read(self):
         lines = b'{"cmd":"load"}\n'
@@ -219,7 +224,7 @@ DIGITS = {
     "a queue": section("details") + r'<td><span class="ids">(\d)',
     "the bar of a queue": section("details") + r'<rect y="3" width="(\d)',
     "the line of a greatest queue": section("details") + r'<line x1="(\d)',
-    "the text of a bar": section("details") + r'<text x="646" y="21">(\d)',
+    "the text of a bar": section("details") + r'<text x="516" y="21">(\d)',
     "seeds": section("run") + r"seeds (\d)",
     "the demand": section("run") + r"(\d)(?= vehicles)",
     "the program's sum": section("run") + r"SHA-256 [a-f]*(\d)",

@@ -23,7 +23,8 @@ from support import MAP, NUMBERED, PROGRAM, TOOLS, Case, lane, needs_package, ne
 from test_works import fan, flows
 from streetsim.base.files import Fault
 from streetsim.base.seeds import runs_needed, seeds_for, seeds_of, student
-from streetsim.cli.import_ import options_of, parser as import_parser
+from streetsim.cli.import_ import parser as import_parser
+from streetsim.cli.importing import options_of
 from streetsim.cli.plan_commands import found_run, import_words
 from streetsim.control.settings import Settings
 from streetsim.model.mapping import map_from, read_map
@@ -310,7 +311,7 @@ class Values(Corridor):
         for paths in ([self.net], [self.net, str(CORRIDOR / "wave.add.xml")]):
             programs = read_plans(paths, mapping)
             lights = {name: light_and_timing(name, programs.programs[name]) for name, _ in mapping.signals}
-            lines = LightLines(programs, run, mapping)
+            lines = LightLines(mapping)
             text = lines.signal_lines(
                 {name: timing for name, (_, timing) in lights.items()},
                 {name: light for name, (light, _) in lights.items()},
@@ -497,7 +498,7 @@ class Commands(Case):
         words = [
             *("net.xml", "--classes", "passenger,bus", "--turns", "strict", "--sizes", "off", "--joint", "-a,b_1"),
             *("--begin", "60", "--end", "900", "--ignore-route-errors", "--dawdle", "100", "--residence", "3"),
-            *("--permissive", "0.5,x=0.25", "--speed-factor", "0.9,50=1.1", "--cut", "-0.5", "--seed", "7"),
+            *("--permissive", "x=0.25", "--speed-factor", "0.9,50=1.1", "--cut", "-0.5", "--seed", "7"),
         ]
         for given in (words, ["net.xml"]):
             options = options_of(import_parser().parse_args(given))

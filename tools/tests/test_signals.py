@@ -7,7 +7,6 @@ from streetsim.base.client import Client
 from streetsim.base.files import Fault
 from streetsim.base.report import Report
 from streetsim.report import run_series
-from streetsim.sumo.gaps import gap_capacity
 from streetsim.sumo.import_files import convert
 from streetsim.sumo.network import Options, Turn
 from streetsim.sumo.signals import phases_that_fit, run_lengths, shown_green
@@ -102,30 +101,17 @@ class Signals(Case):
         self.assertEqual(commands, self.made(program)[0])
         self.assertIn("<tlLogic 'L'> does nothing here, as it switches the light off", " ".join(warnings))
 
-    def test_permissive_green_is_shown_at_the_end_of_its_run(self):
+    def test_a_surveyed_green_is_shown_at_the_end_of_its_run(self):
         turn = Turn(0, "L", 0, False, 13.9, 2)
+        self.assertEqual(shown_green("ggggggggggrrrrr", {0: 7}, turn, 1, True), [False] * 3 + [True] * 7 + [False] * 5)
         self.assertEqual(
-            shown_green("ggggggggggrrrrr", {0: (7, 1)}, turn, 1, True), [False] * 3 + [True] * 7 + [False] * 5
-        )
-        self.assertEqual(
-            shown_green("gggggrrrrrggggg", {10: (7, 1)}, turn, 1, True), [True] * 5 + [False] * 8 + [True] * 2
+            shown_green("gggggrrrrrggggg", {10: 7}, turn, 1, True), [True] * 5 + [False] * 8 + [True] * 2
         )  # the run goes round the cycle
-        # Eight of 20 seconds in two parts: six seconds of waiting before each.
-        two = [False] * 6 + [True] * 4
-        self.assertEqual(shown_green("g" * 20 + "r", {0: (8, 2)}, turn, 1, True), two * 2 + [False])
         self.assertEqual(shown_green("gggg", {}, turn, 1, True), [True] * 4)
 
-    def test_right_on_red(self):
-        """So many seconds as are told are shown in the red, by twos and evenly; none where nothing is told."""
-        turn = Turn(0, "L", 0, False, 13.9, 2)
-        for seconds, at in ((0, []), (2, [14, 15]), (5, [8, 9, 10, 19, 20])):
-            shown = shown_green("s" * 30 + "r" * 10, {0: (seconds, 2)}, turn, 1, True)
-            self.assertEqual([second for second, on in enumerate(shown) if on], at)
-        self.assertEqual(shown_green("ssr", {}, turn, 1, True), [False] * 3)
-
-    def test_gaps(self):
-        # 400 e^-0.5 / (1 - e^-0.2778) = 1,000 an hour.
-        self.assertAlmostEqual(gap_capacity(400), 1000, delta=2)
+    def test_right_on_red_is_no_part_of_a_plan(self):
+        """Runs let those go, in gaps."""
+        self.assertEqual(shown_green("ssr", {}, Turn(0, "L", 0, False, 13.9, 2), 1, True), [False] * 3)
 
     def test_rounding_keeps_the_cycle(self):
         # 10.4, 20.8 and 31.2 s are 10, 21 and 31; of the green of 20 s round the cycle two are left out from half on.

@@ -26,12 +26,12 @@ NODES = [[0, 3, 4], [1, 3, 4]]  # number, seconds in the buffer, vehicles that i
 GREEN, RED = 40, 20  # seconds of the cycle
 
 
-def mapping(yields=((0, 1, False),), stops=()):
+def mapping(yields=((0, 1, False),), stops=(), straight=STRAIGHT):
     """Three streets that lead to a light at node 0, and three that lead on."""
     ends = [(1, 0)] * 3 + [(0, 1)] * 3
     links = [MapLink(f"e{at}", (0,), *pair, CELLS, 2, 300.0, ()) for at, pair in enumerate(ends)]
-    turns = [MapTurn(*turn, 0, "L", at, False) for at, turn in enumerate((LEFT, STRAIGHT, RIGHT))]
-    ways = LitWays(0, ((LEFT,), (STRAIGHT,), (RIGHT,)), tuple(yields), tuple(stops))
+    turns = [MapTurn(*turn, 0, "L", at, False) for at, turn in enumerate((LEFT, straight, RIGHT))]
+    ways = LitWays(0, ((LEFT,), (straight,), (RIGHT,)), tuple(yields), tuple(stops))
     return Map([("n0", 0, 0, 3), ("n1", 0, 0, 3)], links, turns, [("L", 0)], [], {}, [], lit_ways=[ways])
 
 
@@ -180,7 +180,8 @@ class Full(unittest.TestCase):
             for clock in range(900):
                 meets = clock % 20 < 10
                 fronts = [(1, clock // 20)] if meets and clock % 10 < busy else []
-                fullness.note_second(clock, np.array([NO_CELL, 5 if meets else NO_CELL]), fronts)
+                fullness.note_fronts(clock, np.array([NO_CELL, 5 if meets else NO_CELL]), fronts)
+                fullness.note_seconds(1)
             fullness.end_part()
             self.assertEqual(fullness.passages.get(1, 0), passages)
 

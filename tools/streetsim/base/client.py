@@ -4,9 +4,8 @@ import fcntl
 import json
 import subprocess
 from collections.abc import Iterable, Iterator, Sequence
-from dataclasses import dataclass
 from os import PathLike, fspath
-from typing import Any
+from typing import Any, NamedTuple
 
 from streetsim.base import limits
 from streetsim.base.files import Fault
@@ -18,6 +17,8 @@ Numbers = Sequence[Sequence[int]]
 Entries = tuple[tuple[int, ...], ...]
 
 CHUNK = 60_000  # bytes: fits in an empty pipe, so the two sides never wait for each other
+ENCODER = json.JSONEncoder(separators=(",", ":"))  # made once: json.dumps makes one a call
+DECODER = json.JSONDecoder()
 
 
 class Refused(Exception):
@@ -82,8 +83,7 @@ class NoReply(Exception):
     """What the program wrote is no reply of streetsim."""
 
 
-@dataclass(slots=True, frozen=True)
-class Loaded:
+class Loaded(NamedTuple):
     """How many links, nodes and turns were loaded, the reply to load."""
 
     links: int
@@ -91,16 +91,14 @@ class Loaded:
     turns: int
 
 
-@dataclass(slots=True, frozen=True)
-class Short:
+class Short(NamedTuple):
     """The reply to an advance that made only `short` of its steps; clock: after them."""
 
     clock: int
     short: int
 
 
-@dataclass(slots=True, frozen=True)
-class Vehicle:
+class Vehicle(NamedTuple):
     """Where a vehicle is: state is waiting (to enter), cell, buffer, arrived or taken (out), and tells which of the
     fields below are given; the others keep their defaults."""
 
@@ -128,8 +126,7 @@ class Vehicle:
         return self.step + 1 if self.state == "arrived" and self.step is not None else None
 
 
-@dataclass(slots=True, frozen=True)
-class Lane:
+class Lane(NamedTuple):
     """What is on one lane, in its buffer and waits to enter it, and its closed cells, the reply to lane."""
 
     cells: Entries  # of (car, cell of its front, speed in cells a step[, size in cells above 1]); greatest cell first
@@ -138,8 +135,7 @@ class Lane:
     closed: tuple[tuple[int, int], ...]  # of (first, last) cell, both included
 
 
-@dataclass(slots=True, frozen=True)
-class Row:
+class Row(NamedTuple):
     """What a detector noted from `start` on, in `steps` steps."""
 
     start: int  # clock
@@ -168,16 +164,14 @@ class Row:
         return "" if self.mean_speed is None else f"{self.mean_speed * (3.6 * cell_metres):.1f}"
 
 
-@dataclass(slots=True, frozen=True)
-class Rows:
+class Rows(NamedTuple):
     """The rows of a detector, the reply to read."""
 
     now: Row  # the running period, with the steps it has so far
     rows: tuple[Row, ...]  # the last full periods, at most 32, the oldest first
 
 
-@dataclass(slots=True, frozen=True)
-class Census:
+class Census(NamedTuple):
     """How many vehicles are where at `clock`, the reply to count; admitted: all of `enter`, wherever they are."""
 
     admitted: int
@@ -200,8 +194,8 @@ def reply_of(reply: Any) -> Reply:
     if "starved" in reply:
         return Starved()
     if "state" in reply:
-        plan: Any = tuple(reply.get("plan", ()))
-        return Vehicle(**{**reply, "plan": plan})
+        reply["plan"] = tuple(reply.get("plan", ()))
+        return Vehicle(**reply)
     if "admitted" in reply:
         return Census(**reply)
     if "buffer" in reply:
@@ -223,13 +217,17 @@ def reply_of(reply: Any) -> Reply:
 
 def entries(lists: Numbers) -> Entries:
     """Lists of numbers as tuples."""
-    return tuple(tuple(one) for one in lists)
+    return tuple(map(tuple, lists))
 
 
 def read_reply(line: bytes) -> Reply:
     """The typed reply of a line, as `reply_of` gives it; NoReply where it is none."""
     try:
-        return reply_of(json.loads(line))
+        text = line.decode()
+        value, end = DECODER.raw_decode(text)
+        if text[end:] not in ("\n", ""):
+            raise ValueError(text)
+        return reply_of(value)
     except (ValueError, TypeError, KeyError, AttributeError):
         raise NoReply(f"no reply of streetsim: {line[:80].decode(errors='replace').strip()}") from None
 
@@ -238,11 +236,27 @@ def line_of(command: Command) -> bytes:
     """The line of a command, with its end: of a dictionary, or of a line that is ready (with or without its end). A
     blank line would get no reply, and two lines two: ValueError for both."""
     if isinstance(command, dict):
-        return json.dumps(command, separators=(",", ":")).encode() + b"\n"
+        return ENCODER.encode(command).encode() + b"\n"
     line = (command.encode() if isinstance(command, str) else command).removesuffix(b"\n")
     if not line.strip(b" \t\r") or b"\n" in line:
         raise ValueError("a command is one line that is not blank")
     return line + b"\n"
+
+
+def line_of_fields(cmd: str, **fields: object) -> bytes:
+    """As `line_of`, of the command `cmd` with these fields; faster where each is an int."""
+    for field in fields.values():
+        if type(field) is not int:
+            return line_of({"cmd": cmd, **fields})
+    numbers = "".join([f',"{name}":{number}' for name, number in fields.items()])
+    return f'{{"cmd":"{cmd}"{numbers}}}\n'.encode()
+
+
+def granted(reply: Reply) -> Any:
+    """A reply; raises it where it is a refusal or Starved."""
+    if isinstance(reply, Exception):
+        raise reply
+    return reply
 
 
 def help_of(program: str) -> str:
@@ -323,6 +337,18 @@ class Client(Process):
             raise ProgramEnded(*self.end())
         return replies
 
+    def exchange_one(self, line: bytes) -> bytes:
+        """Sends a line and gives the reply, each with its end; ProgramEnded where the program ends before."""
+        try:
+            self.input.write(line)
+            self.input.flush()
+            reply = self.output.readline()
+        except OSError:
+            reply = b""
+        if not reply.endswith(b"\n"):
+            raise ProgramEnded(*self.end())
+        return reply
+
     def batch(self, commands: Iterable[Command]) -> list[Reply]:
         """Sends commands, dictionaries or ready lines, and gives the typed reply to each, in order; refusals and
         Starved stand among them as values and do not end the batch. ValueError for a line that is blank or several
@@ -332,10 +358,7 @@ class Client(Process):
 
     def ask(self, cmd: str, **fields: Any) -> Any:
         """The typed reply to a command, by its name (cmd) and its fields; raises what was refused, or Starved."""
-        [reply] = self.batch([{"cmd": cmd, **fields}])
-        if isinstance(reply, Exception):
-            raise reply
-        return reply
+        return granted(read_reply(self.exchange_one(line_of_fields(cmd, **fields))))
 
     def load(
         self, nodes: Numbers, links: Numbers, turns: Numbers, zone: int = 0, dawdle: int = 0, change: int = 0,
@@ -389,9 +412,17 @@ class Client(Process):
         """Where a vehicle is, by the number that `enter` gave."""
         return self.ask("vehicle", car=car)
 
+    def vehicles(self, cars: Iterable[int]) -> list[Vehicle]:
+        """As `vehicle`, of many, in their order."""
+        return list(map(granted, self.batch(line_of_fields("vehicle", car=car) for car in cars)))
+
     def lane(self, link: int, lane: int) -> Lane:
         """What is on one lane, in its buffer and waits to enter it, and which of its cells are closed."""
         return self.ask("lane", link=link, lane=lane)
+
+    def lanes(self, places: Iterable[tuple[int, int]]) -> list[Lane]:
+        """As `lane`, of many, each by its (link, lane), in their order."""
+        return list(map(granted, self.batch(line_of_fields("lane", link=link, lane=lane) for link, lane in places)))
 
     def count(self) -> Census:
         """How many vehicles are where, at the present clock."""

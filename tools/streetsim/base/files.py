@@ -254,10 +254,13 @@ def filled(text: str) -> str:
 def seconds(text: str) -> float:
     """The seconds that a text writes as SUMO's times: 3.5, or 01:30:00, or 1:01:30:00 with days; ValueError where it is
     none, or not between -10^9 and 10^12 s, both excluded. Minutes and seconds may be 60 or more."""
-    parts = text.split(":")
-    scaled = zip(reversed(parts), (1, 60, 3600, 86400), strict=False)
-    value = 0 + float(text) if len(parts) == 1 else sum(float(part) * scale for part, scale in scaled)
-    if len(parts) not in (1, 3, 4) or not -1e9 < value < 1e12:
+    if ":" in text:
+        parts = text.split(":")
+        scaled = zip(reversed(parts), (1, 60, 3600, 86400), strict=False)
+        value, known = sum(float(part) * scale for part, scale in scaled), len(parts) in (3, 4)
+    else:
+        value, known = 0 + float(text), True
+    if not known or not -1e9 < value < 1e12:
         raise ValueError(text)
     return value
 

@@ -17,8 +17,10 @@ NAMES = frozenset(
     "movements.csv approaches.csv junctions.csv runs.csv differences.csv windows.csv differences.png made.json "
     "lights.csv before-after.csv search.csv before.png after.png iterations.csv check.csv gap.png flows.png "
     "before.rou.xml knowing.csv flows.csv fit.csv hours.csv groups.csv fit.png pairs.csv candidates.rou.xml "
-    f"contradictions.csv {CRITERIA}".split()
+    f"contradictions.csv {CRITERIA} junction.nod.xml junction.edg.xml junction.con.xml junction.net.xml "
+    "junction.rou.xml junction.svg junction.jsonl junction.map.json".split()
 )
+PLAN_FILE = re.compile(r"plan-[\w-]+\.(add\.xml|jsonl|map\.json)")  # of a plan of a sheet
 INSIDE = re.compile(r"seed-\d+|knowing-[\d.-]+")  # folders of results in them, which have such files too
 SUMO = "sumo"  # a folder of SUMO's outputs in them
 OUTPUT = re.compile(r"[a-z0-9-]+\.xml")  # in that
@@ -38,10 +40,15 @@ def own_paths(folder: FilePath, also: Collection[str] = ()) -> Iterator[tuple[st
             elif os.path.islink(path):
                 yield os.path.relpath(path, folder), False
             elif name in files:
-                known = OUTPUT.fullmatch(name) if parts[-1:] == [SUMO] else name in NAMES or name in also
+                known = OUTPUT.fullmatch(name) if parts[-1:] == [SUMO] else is_named(name) or name in also
                 yield os.path.relpath(path, folder), bool(known) and all(map(is_inside, parts))
             elif not os.listdir(path):
                 yield os.path.relpath(path, folder), False
+
+
+def is_named(name: str) -> bool:
+    """Whether a file that commands write into folders of results is called so."""
+    return name in NAMES or PLAN_FILE.fullmatch(name) is not None
 
 
 def is_inside(name: str) -> bool:
@@ -63,7 +70,7 @@ def remove_own(folder: FilePath, first_file: str, names: Collection[str] = NAMES
     """Removes from a folder the files of some names that the tools write there, and of SUMO's outputs, those of the
     name `first_file` before others, and folders inside that are empty then."""
     tool_paths = [path for path, is_own in own_paths(folder, names) if is_own]
-    removed = [path for path in tool_paths if path in names or os.sep in path and names is NAMES]
+    removed = [path for path in tool_paths if path in names or names is NAMES and (os.sep in path or is_named(path))]
     for path in sorted(removed, key=lambda path: os.path.basename(path) != first_file):
         os.remove(os.path.join(folder, path))
     for directory, _, _ in os.walk(folder, topdown=False):

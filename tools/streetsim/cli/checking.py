@@ -12,7 +12,8 @@ from streetsim.base.seeds import seeds_text
 from streetsim.cli import run as run_words, study as study_words
 from streetsim.cli.given_words import given_words, refuse_other_words
 from streetsim.cli.run import main as run
-from streetsim.cli.study import ORIGIN_FILE, main as study
+from streetsim.cli.study import main as study
+from streetsim.cli.studying import ELSEWHERE, ORIGIN_FILE
 from streetsim.model.folder import NAME
 from streetsim.model.sources import sum_of
 from streetsim.report.page_sealing import sealed_plan
@@ -89,6 +90,6 @@ def remake_study(args: argparse.Namespace, out_folder: str) -> str:
         raise Fault(f"{args.target}: {hint}")
     if sum_of(args.study) != origin["sum"]:
         raise Fault(f"{args.study}: has changed since the study was made, or is another one")
-    refuse_other_words(study_words.parser(), origin["words"], ["x", "--out", "x"], study_words.ELSEWHERE, args.target)
+    refuse_other_words(study_words.parser(), origin["words"], ["x", "--out", "x"], ELSEWHERE, args.target)
     study([args.study, *origin["words"], *machine_words(args), "--out", out_folder])
     return out_folder

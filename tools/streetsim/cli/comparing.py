@@ -61,7 +61,7 @@ def with_counts(path: str, files: list[str], attribute: str | None, out_path: st
     met, else 0; that the run is not to be trusted is printed and does not change it."""
     with Slow(f"reading {path}") as progress:
         folder = read_folder(path)
-        counts = read_counts(files, attribute)
+        counts = read_counts(files, attribute, folder.mapping)
         progress.text = f"comparing with {len(counts):,} counts"
         fit = judge_counts(counts, passed_in(folder, counts))
         if out_path:

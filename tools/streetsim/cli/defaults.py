@@ -12,7 +12,7 @@ from streetsim.base.words import FALSE, Parser
 from streetsim.sumo.configuration import DEFAULTS, files_named, read_configuration
 
 COMPLETED: list[str] = []  # words that were not given, with the paths that they got, of this process
-FILE_ENDINGS = re.compile(r"\.(jsonl|net\.xml|sumocfg|sumo\.cfg|rou\.xml|toml|xml)(\.gz)?$|/+$")
+FILE_ENDINGS = re.compile(r"\.(jsonl|net\.xml|osm\.xml|osm|sumocfg|sumo\.cfg|rou\.xml|toml|xml)(\.gz)?$|/+$")
 CONFIGURATION = re.compile(r"\.(sumocfg|sumo\.cfg)(\.gz)?$")
 
 

@@ -1,34 +1,10 @@
 """streetsim-import: SUMO networks and routes to streetsim's commands."""
 import argparse
-import sys
-from dataclasses import replace
 
-from streetsim.base import limits
-from streetsim.base.files import Fault, Json, refuse_unwritable
-from streetsim.base.progress import Slow
-from streetsim.base.report import COLUMNS, Report
-from streetsim.base.words import Parser, add_names, integer_within, names_in, paths_in
-from streetsim.cli.defaults import complete_outputs, end_of, map_beside, name_of_network, args_and_options
-from streetsim.cli.words import add_clock, add_files
-from streetsim.model.mapping import INVENTED, TOLD_INVENTED
-from streetsim.model.sources import Sources
-from streetsim.model.tables import write_table
-from streetsim.sumo.driver_words import (
-    CUTS, DriverValues, number_within, read_drivers, shares_read, speeds_read,
-)
-from streetsim.sumo.import_files import read_and_converted, write_run
-from streetsim.sumo.network import Options
-from streetsim.sumo.types import CLASSES
-
-# Numbers of the model: least, most, what each is.
-NUMBERS = {
-    "dawdle": (0, 1000, "chance to slow down at random, of 1,000"),
-    "change": (0, 1000, "chance to change lane, of 1,000"),
-    "zone": (0, 1000, "length of the turn zone, in cells"),
-    "seed": (0, 2**64 - 1, "seed of all random draws"),
-    "residence": (1, limits.RESIDENCE, "minimum steps in a buffer at lights and where streets meet"),
-    "buffer": (1, limits.BUFFER, "maximum vehicles in the buffer of a lane"),
-}
+from streetsim.base.words import Parser, add_names, integer_within
+from streetsim.cli.defaults import args_and_options
+from streetsim.cli.words import add_clock, add_files, add_part
+from streetsim.sumo.import_options import NUMBERS, Options
 
 
 def parser() -> Parser:
@@ -73,6 +49,7 @@ def parser() -> Parser:
         help="lower speed limit on a stretch of an edge; the edge becomes up to three that follow each other; "
         "several with commas between",
     )
+    add_part(tool_parser)
     add_options(tool_parser)
     return tool_parser
 
@@ -83,9 +60,9 @@ def add_options(tool_parser: argparse.ArgumentParser) -> None:
     add_vehicles(tool_parser)
     add_numbers(tool_parser)
     tool_parser.add_argument(
-        "--permissive", metavar="SHARE|EDGE=SHARE",
-        help="share of each permissive green in which vehicles may go: its last part, of all or of surveyed "
-        "approaches, with commas between (default: by the flows that it gives way to)",
+        "--permissive", metavar="EDGE=SHARE",
+        help="share of each permissive green in which vehicles may go: its last part, of surveyed approaches, with "
+        "commas between; all others go by who comes",
     )
     add_drivers(tool_parser)
 
@@ -150,68 +127,9 @@ def add_numbers(tool_parser: argparse.ArgumentParser) -> None:
         )
 
 
-def options_of(args: argparse.Namespace) -> Options:
-    """The options that the words of `add_options` name; Fault where they do not fit to each other, or SUMO has no class
-    of --classes."""
-    if args.end is not None and args.end <= args.begin:
-        raise Fault(f"the end, {args.end} s, is not after the begin, {args.begin} s: nobody would depart")
-    classes = tuple(names_in(args.classes))
-    if unknown := [name for name in classes if name not in CLASSES]:
-        raise Fault(f"--classes: SUMO has no vehicle class {unknown[0]!r}; it has {', '.join(CLASSES)}")
-    values = {name: getattr(args, name) for name in (*NUMBERS, "begin", "end", "ignore_route_errors")}
-    values.update(drivers_of(args))
-    values.update(strict_turns=args.turns == "strict", sizes=args.sizes == "on", joint=tuple(names_in(args.joint)))
-    return Options(classes=classes, **values)
-
-
-def drivers_of(args: argparse.Namespace) -> Json:
-    """The options of drivers: of the words, else of the file of --drivers, else the usual ones. Fault where one of them
-    is wrong."""
-    file_drivers = read_drivers(args.drivers) if args.drivers else DriverValues()
-    dawdle = next((share for share in (args.dawdle, file_drivers.dawdle) if share is not None), Options().dawdle)
-    permissive, shares = shares_read(args.permissive or "", "--permissive")
-    cut = file_drivers.cut or 0.0
-    if args.cut is not None:
-        cut = number_within(args.cut, CUTS, "--cut")
-    speeds = speeds_read(args.speed_factor or "", "--speed-factor")
-    both = {**dict(file_drivers.shares), **dict(shares)}
-    return {
-        "dawdle": dawdle, "permissive": permissive, "cut": cut, "speeds": speeds or file_drivers.speeds,
-        "shares": tuple(both.items()),
-    }  # fmt: skip
-
-
-def args_of(arguments: list[str]) -> tuple[argparse.Namespace, dict[str, str]]:
-    """The words of a command, where no word is given completed by the configuration that they name, and outputs by
-    the network's name; and the options of that configuration, empty where they name none."""
-    args, options = args_and_options(parser(), arguments, "routes")
-    if not args.net:
-        raise Fault("no network: give NET.net.xml, or -c FILE.sumocfg (what may be given: streetsim-import --help)")
-    output = args.output or f"{name_of_network(args)}.jsonl"
-    complete_outputs(args, output=output, map=map_beside(output))
-    return args, options
-
-
 def main(arguments: list[str]) -> int:
-    """Runs streetsim-import: writes the run, its map and the table of --warnings, and tells on standard error what is
-    other than in SUMO; gives 1 where --strict is given and vehicles were skipped, else 0."""
-    args, configured = args_of(arguments)
-    args.additional, args.routes, args.trips = map(paths_in, (args.additional, args.routes, args.trips))
-    sources = Sources(args.net, args.additional, args.routes, args.trips)
-    outputs = {"-o": args.output, "--map": args.map, "--warnings": args.warnings}
-    refuse_unwritable(".", outputs, [*sources.paths(), *filter(None, [args.names])])
-    report, options = Report(), replace(options_of(args), slow=tuple(names_in(args.slow)))
-    with Slow(f"importing {args.net}"):
-        converted = read_and_converted(sources, options, report, configured)
-        if any(name.startswith(INVENTED) for name in converted[3]):
-            report.warn(TOLD_INVENTED, advice="counts and matrices: streetsim-demand")
-    mapping = write_run(args.output, args.map, converted, report, sources, args.names, end_of(configured))
-    if args.warnings:
-        write_table(args.warnings, COLUMNS, report.rows())
-    print(*report.lines(), sep="\n", end="\n" if any(report.lines()) else "", file=sys.stderr)
-    print(
-        f"{len(mapping.nodes):,} nodes, {len(mapping.links):,} links, {len(mapping.turns):,} turns, "
-        f"{len(mapping.signals):,} signals, {len(mapping.cars):,} vehicles",
-        file=sys.stderr,
-    )
-    return 1 if args.strict and report.skipped else 0
+    """Runs streetsim-import, as import_by says."""
+    args, configured = args_and_options(parser(), arguments, "routes")
+    from streetsim.cli.importing import import_by  # which loads what imports
+
+    return import_by(args, configured)

@@ -14,15 +14,14 @@ from streetsim.base.progress import Slow
 from streetsim.base.report import Report
 from streetsim.base.words import Parser, integer_within
 from streetsim.cli.defaults import COMPLETED, is_configuration, map_beside, plan_files, stem_of
-from streetsim.cli.words import add_clock, add_program
-from streetsim.demand.invented import write_invented
+from streetsim.cli.words import add_clock, add_part, add_program
 from streetsim.model.folder import NAME, seeds_in
 from streetsim.model.mapping import read_map
-from streetsim.sumo.demand import Unrouted
-from streetsim.sumo.net import read_net
+from streetsim.sumo.netconvert import network_of_map
 
 MOST_INVENTED = 100_000  # invented vehicles an hour
 RUNS, NETWORKS = (".jsonl", ".jsonl.gz"), (".net.xml", ".net.xml.gz")
+MAPS = (".osm", ".osm.xml", ".osm.gz", ".osm.xml.gz")  # of OpenStreetMap
 ROOTS = ("net", "configuration", "sumoConfiguration")  # of a network, and of a configuration
 WITHOUT = "{}: a network without routes: name them behind it, or give --vehicles N: so many an hour, invented"
 CLASSES = ("passenger",)  # whose lanes invented trips take, as the import does
@@ -39,12 +38,13 @@ def parser() -> Parser:
             "streetsim-open corridor.net.xml.gz corridor.rou.xml",
             "streetsim-open town.sumocfg --until 09:30",
             "streetsim-open town.net.xml --vehicles 3000",
+            "streetsim-open town.osm --vehicles 3000",
         ),
     )
     tool_parser.add_argument(
         "target", metavar="NET|CFG|RUN|FOLDER",
-        help="what to open: a SUMO network (.net.xml) or configuration (.sumocfg), a run (.jsonl), a folder that "
-        "streetsim-run wrote, or one with a configuration or a network",
+        help="what to open: a SUMO network (.net.xml) or configuration (.sumocfg), a map of OpenStreetMap (.osm), a "
+        "run (.jsonl), a folder that streetsim-run wrote, or one with a configuration or a network",
     )
     tool_parser.add_argument(
         "routes", metavar="ROUTES", nargs="*",
@@ -54,6 +54,7 @@ def parser() -> Parser:
         "--vehicles", type=integer_within(1, MOST_INVENTED), metavar="N",
         help="number of invented vehicles per hour that drive from border to border, for a network without routes",
     )
+    add_part(tool_parser)
     add_clock(tool_parser, "--begin", "start time of the run", default=None)
     add_clock(tool_parser, "--until", "end time of the run", least=1)
     tool_parser.add_argument(
@@ -75,7 +76,9 @@ def main(arguments: list[str]) -> int:
     refuse_clashing_words(args)
     program_words = ["--program", args.program] if args.program else []
     kind, path = kind_of(args.target)
-    if kind == "net":
+    if kind == "osm":
+        path = converted(path)
+    if kind in ("net", "osm"):
         path = imported(args, path)
     if args.live:
         return run_tool("live", [path, *(["--no-open"] if args.no_open else []), *program_words])
@@ -97,8 +100,8 @@ def refuse_clashing_words(args: argparse.Namespace) -> None:
     kind, _ = kind_of(args.target)
     if args.vehicles and args.routes:
         raise Fault("--vehicles is for a network without routes: leave it out, or ROUTES")
-    if kind != "net":
-        for name in ("routes", "vehicles", "begin"):
+    if kind not in ("net", "osm"):
+        for name in ("routes", "vehicles", "begin", "part"):
             if getattr(args, name):
                 raise Fault(f"{args.target}: {'ROUTES are' if name == 'routes' else f'--{name} is'} of a network")
     if kind == "folder":
@@ -112,8 +115,8 @@ def refuse_clashing_words(args: argparse.Namespace) -> None:
 
 
 def kind_of(target: str) -> tuple[str, str]:
-    """What is opened, by its name: ("folder", its path) of what a run left, ("run", the run file), or ("net", the
-    network or configuration). Fault where it is none of them, or is not there."""
+    """What is opened, by its name: ("folder", its path) of what a run left, ("run", the run file), ("net", the
+    network or configuration), or ("osm", the map). Fault where it is none of them, or is not there."""
     if not os.path.exists(target):
         raise Fault(f"{target}: No such file or directory")
     if os.path.isdir(target):
@@ -122,9 +125,22 @@ def kind_of(target: str) -> tuple[str, str]:
         return "net", network_in(target)
     if target.endswith(RUNS):
         return "run", target
+    if target.endswith(MAPS):
+        return "osm", target
     if target.endswith(NETWORKS) or is_configuration(target) or root_of(target) in ROOTS:
         return "net", target
-    raise Fault(f"{target}: no network (.net.xml), configuration (.sumocfg), run (.jsonl) or folder of one")
+    raise Fault(f"{target}: no network (.net.xml), map (.osm), configuration (.sumocfg), run (.jsonl) or folder of one")
+
+
+def converted(path: str) -> str:
+    """Makes the network of a map of OpenStreetMap, of its name, here; prints the command and what was guessed. Gives
+    its path."""
+    net = f"{stem_of(path)}.net.xml"
+    arguments, guessed = network_of_map(path, net)
+    print(f"$ SUMO_HOME=/usr/share/sumo netconvert {shlex.join(arguments)}")
+    print(*(f"  {line}" for line in guessed), sep="\n", flush=True)
+    note_kept(net)
+    return net
 
 
 def root_of(path: str) -> str:
@@ -149,11 +165,17 @@ def network_in(folder: str) -> str:
 def imported(args: argparse.Namespace, path: str) -> str:
     """Imports a network or configuration; gives the path of the run file, of its name, here. Fault where it has no
     vehicles and none are to be invented."""
+    from streetsim.sumo.demand import Unrouted  # which loads the import
+
     run = f"{stem_of(path)}.jsonl"
     begin = [] if args.begin is None else ["--begin", str(args.begin)]
+    part = [f"--part={args.part}"] if args.part else []
     files = [path, *(name for name in args.routes if is_additional(name))]
     routes = [name for name in args.routes if not is_additional(name)]
     if args.vehicles:
+        from streetsim.demand.invented import write_invented
+        from streetsim.sumo.net import read_net
+
         trips = f"{stem_of(path)}.invented.trips.xml"
         write_invented(trips, read_net(plan_files(path)[0], CLASSES, Report()), args.vehicles, args.begin or 0)
         print(f"{trips}: {args.vehicles:,} vehicles in an hour from border to border: invented")
@@ -166,7 +188,7 @@ def imported(args: argparse.Namespace, path: str) -> str:
         raise Fault(WITHOUT.format(path))
     for last, how in enumerate(tries, 1):
         try:
-            run_tool("import_", [*files, *how, *begin])
+            run_tool("import_", [*files, *how, *begin, *part])
             break
         except Unrouted:
             if last == len(tries):

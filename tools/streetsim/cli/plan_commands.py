@@ -56,7 +56,7 @@ def import_words(options: Json) -> Iterator[str]:
     """The words of streetsim-import by which it gets the options that a map keeps; of the usual ones none."""
     usual = {one.name: one.default for one in fields(Options)}
     kept_options = {name: tuple(setting) if isinstance(setting, list) else setting for name, setting in options.items()}
-    changed = {name: setting for name, setting in kept_options.items() if setting != usual[name]}
+    changed = {name: setting for name, setting in kept_options.items() if setting != usual.get(name, setting)}
     for name, setting in changed.items():
         if name in BY_NAME:
             yield f"--{name}={setting}"
@@ -64,9 +64,8 @@ def import_words(options: Json) -> Iterator[str]:
             yield f"--{name}={','.join(setting)}"
     yield from ("--turns=strict",) * ("strict_turns" in changed) + ("--sizes=off",) * ("sizes" in changed)
     yield from ("--ignore-route-errors",) * ("ignore_route_errors" in changed)
-    every = [str(kept_options["permissive"])] if "permissive" in changed else []
     shares, speeds = (pairs_told(kept_options.get(name, ())) for name in ("shares", "speeds"))
-    for word, texts in (("permissive", every + shares), ("speed-factor", speeds)):
+    for word, texts in (("permissive", shares), ("speed-factor", speeds)):
         if texts:
             yield f"--{word}={','.join(texts)}"
 

@@ -34,7 +34,7 @@ from streetsim.report.timing_sheets import Timings, changed, clashes, sheets
 ALL_LIGHTS = "all"  # --sheets without a value
 # Words that say where a page is and what it is of; plans' names, --names and --counts are sealed beside the words.
 ELSEWHERE = ("runs", "output", "csv", "names", "plan_names", "sealed", "counts")
-DETAIL = 8  # junctions told with all movements
+DETAIL = 6  # junctions told with all movements
 PICTURE_SECONDS = {"first": 0, "last": 600}  # seconds of the corridor's picture
 
 
@@ -189,8 +189,8 @@ def wishes_of(plans: Sequence[Runs], args: argparse.Namespace, seal: Seal | None
 def counts_html(runs: Runs, args: argparse.Namespace) -> str:
     """How the first seed of a plan meets the counts of --counts, as HTML. Fault where these cannot be read, or as of
     passed_in."""
-    counts = read_counts(paths_in(args.counts), args.attribute)
     folder = runs.first_folder
+    counts = read_counts(paths_in(args.counts), args.attribute, folder.mapping)
     return counts_section(runs.name, judge_counts(counts, passed_in(folder, counts)), folder.mapping)
 
 

@@ -10,6 +10,8 @@ from streetsim.base.seeds import seeds_of
 from streetsim.base.words import add_jobs, integer_within, time_within
 from streetsim.model.replications import DRAWN, LISTED
 
+FREE_VALUES = ("dawdle", "speed", "lost")  # of drivers, which streetsim-calibrate fits
+
 
 def add_out(parser: argparse.ArgumentParser, help_text: str, is_required: bool = False) -> None:
     """Adds --out, the folder that a command writes, with its help (told), and --force."""
@@ -33,6 +35,16 @@ def add_clock(
 ) -> None:
     """Adds a word that takes a clock, or seconds, of a run, from a least one on; help_text: its help."""
     parser.add_argument(name, type=time_within(least, limits.CLOCK), default=default, metavar="S", help=help_text)
+
+
+def add_part(parser: argparse.ArgumentParser) -> None:
+    """Adds --part, the part of a network that is imported; empty where it is not given: all of it."""
+    parser.add_argument(
+        "--part", default="", metavar="EDGES|X,Y,X,Y",
+        help="part of the network: edges with commas between, or a box by two corners in metres of the network, with "
+        "the streets that begin or end in it; vehicles drive there for their part of the way, and come in as without "
+        "traffic before",
+    )
 
 
 def add_network(parser: argparse.ArgumentParser) -> None:

@@ -142,7 +142,7 @@ class Driver:
         for good, or until the light changes by time of day. Nothing where no driven light is there."""
         to_come = {light for _, light, _ in self.switches}
         for one in self.controllers:
-            if one.stop_clock == inf and any(own.node == node for own in one.light.nodes):
+            if one.stop_clock == inf and node in one.light.nodes:
                 one.leaves(clock)
                 one.stop_clock = inf if one.name in to_come else clock
 

@@ -7,7 +7,6 @@ from math import isfinite
 from typing import Any
 
 from streetsim.base.files import Fault, Json
-from streetsim.sumo.net import NetConnection
 
 LONGEST = 1_000_000  # seconds of a green whose program gives no greatest length
 OFF_VALUES = ("", "0", "false")  # values by which a parameter is switched off
@@ -38,19 +37,14 @@ class DetectorArea:
     at_end: bool = True  # the last cell is the lane's
 
 
-@dataclass(frozen=True, slots=True)
-class NodeOf:
-    """A node with a light, and what says who gives way there."""
-
-    node: int
-    connections: tuple[NetConnection, ...]
-    yields: Mapping[int, frozenset[int]]  # by request: those that it gives way to
-    flows: Mapping[tuple[str, str], float]  # vehicles an hour from edge to edge
-
-
 def programs_at_begin(programs: Iterable[Json]) -> dict[str, Json]:
     """What a map keeps (`programs`) of the programs that lights begin with, by light; idle ones are left out."""
     return {one["light"]: one for one in programs if not one.get("idle")}
+
+
+def nodes_of(program: Mapping[str, Any]) -> tuple[int, ...]:
+    """The numbers of the nodes of a light, of what a map keeps of its program."""
+    return tuple(node["node"] for node in program["nodes"])
 
 
 def kept_of(programs: Iterable[Json], light: str, later: Collection[str]) -> list[Json]:
@@ -78,10 +72,3 @@ def phase_bounds(phase: list[Any]) -> tuple[float, float]:
     shortest = seconds if least is None else least
     longest = most if most is not None else seconds if least is None else LONGEST
     return shortest, max(shortest, longest)
-
-
-def node_of(entry: Mapping[str, Any]) -> NodeOf:
-    """A node with a light, from what a map keeps of it."""
-    connections = tuple(NetConnection(*one) for one in entry["connections"])
-    yields = {request: frozenset(foes) for request, foes in entry["yields"]}
-    return NodeOf(entry["node"], connections, yields, {(begin, end): flow for begin, end, flow in entry["flows"]})

@@ -15,7 +15,7 @@ from streetsim.control.actuated_detectors import (
     GAP, LEAD, NO_DETECTOR, DetectorSpot, Layout, LeadingLane, LitLane, LitTurn, extending, spots,
 )
 from streetsim.control.actuated_kept import (
-    OFF_VALUES, Cell, DetectorArea, Listed, NodeOf, kept_of, node_of, number_of, phase_bounds,
+    OFF_VALUES, Cell, DetectorArea, Listed, kept_of, nodes_of, number_of, phase_bounds,
 )
 from streetsim.control.actuated_logic import GREEN_LETTERS, Actuated, ActuatedPhase
 from streetsim.control.nema_lights import DrivenRings, driven_rings
@@ -41,7 +41,7 @@ class Driven:
     lead: float
     cells: tuple[Cell, ...]  # of its detectors
     gaps: tuple[float, ...]
-    nodes: tuple[NodeOf, ...]
+    nodes: tuple[int, ...]  # numbers
     areas: tuple[DetectorArea, ...] = ()  # it has detectors, which are read
     program: str = "0"
 
@@ -164,7 +164,7 @@ def driven_of(program: Mapping[str, Any], mapping: Map) -> DrivenLight:
         lead=layout.parameter("detector-gap", LEAD),
         cells=tuple(cells.values()),
         gaps=tuple(max_gap_of(layout, lane) for lane in cells),
-        nodes=tuple(node_of(node) for node in program["nodes"]),
+        nodes=nodes_of(program),
         program=program.get("program", "0"),
     )
 

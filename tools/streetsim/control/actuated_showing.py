@@ -1,28 +1,22 @@
 """What a light shows here of a phase whose end is not known yet: what the import's rules show of a plan in which each
-phase has the mean length that it had so far, as who gives way and what starts late depends on how long a green is.
-Where a phase lasts longer its last second goes on; where it may end earlier, who gives way is let go in time."""
-from collections.abc import Iterator, Mapping, Sequence
-from dataclasses import replace
+phase has the mean length that it had so far, as what starts late depends on how long a green is. Where a phase lasts
+longer its last second goes on; where it may end earlier, those of a surveyed share are let go in time."""
+from collections.abc import Iterator, Sequence
 from itertools import groupby
 from typing import Any
 
 from streetsim.base import limits
 from streetsim.base.report import Report
-from streetsim.control.actuated_kept import NodeOf
 from streetsim.control.actuated_lights import Driven
 from streetsim.control.actuated_logic import Actuated, ActuatedPhase
 from streetsim.model.mapping import Map
 from streetsim.model.runs import Command
-from streetsim.model.waiting import ways_at
-from streetsim.sumo.crossing import OPEN, CrossingMovement, movements_of
-from streetsim.sumo.driver_words import measured_of
-from streetsim.sumo.greens import green_here
+from streetsim.sumo.crossing import OPEN
 from streetsim.sumo.net import LightProgram
-from streetsim.sumo.signals import Green, LitNode, green_seconds, phases_that_fit
-from streetsim.sumo.yielding import SNEAKERS, settle
+from streetsim.sumo.signals import Green, LitNode, green_seconds, lit_node_of, phases_that_fit
 
 WEIGHT = 0.2  # of the newest length in a phase's mean, chosen at eight rows of four networks
-LAST = green_here(SNEAKERS, 1)  # seconds, 2, in which one vehicle passes
+LAST = 2  # seconds, in which one vehicle passes
 Lengths = tuple[int, ...]  # seconds of each phase of a cycle
 
 
@@ -31,9 +25,8 @@ class NodesOfLight:
 
     def __init__(self, light: Driven, mapping: Map) -> None:
         """light: what is driven; mapping: of the run whose nodes show it."""
-        self.light, self.limits = light, {link.edge: link.limit for link in mapping.links}
-        cycle = [(float(phase.seconds), phase.state) for phase in light.phases]
-        self.nodes = [(node, lit_node(light.name, node, mapping, light.offset, cycle)) for node in light.nodes]
+        self.light, cycle = light, [(float(phase.seconds), phase.state) for phase in light.phases]
+        self.nodes = [lit_node(light.name, node, mapping, light.offset, cycle) for node in light.nodes]
         self.means = [float(phase.usual) for phase in light.phases]
         self.learned_count = 0  # ended phases that are in the means
         self.rows: dict[tuple[int, Lengths], list[Green]] = {}  # by place of a node: green turns second by second
@@ -57,9 +50,9 @@ class NodesOfLight:
         # At the begin of a run the end of a phase may be all that is left of it.
         length = lengths[logic.phase_index]
         remaining = length if logic.ended_phases else min(length, logic.due - clock)
-        for node_index, (map_node, node) in enumerate(self.nodes):
+        for node_index, node in enumerate(self.nodes):
             if (node_index, lengths) not in self.rows:
-                self.rows[node_index, lengths] = self.greens_by_second(map_node, node, lengths)
+                self.rows[node_index, lengths] = self.greens_by_second(node, lengths)
             key = node_index, lengths, logic.phase_index, remaining
             if key not in self.phases:
                 phase = self.light.phases[logic.phase_index]
@@ -69,12 +62,11 @@ class NodesOfLight:
                 self.phases[key] = phases_of(rows)
             yield command_of(node.node, self.phases[key], clock)
 
-    def greens_by_second(self, map_node: NodeOf, node: LitNode, lengths: Lengths) -> list[Green]:
+    def greens_by_second(self, node: LitNode, lengths: Lengths) -> list[Green]:
         """The green turns in each second, from its begin, of a cycle whose phases have some lengths."""
         pairs = zip(self.light.phases, lengths, strict=True)
         states = [phase.state for phase, length in pairs for _ in range(length)]
-        settled_node = settled(node, map_node, states, self.limits)
-        return green_seconds(settled_node, states, settled_node.shown_seconds(states), 1, True)
+        return green_seconds(node, states, node.shown_seconds(states), 1, True)
 
 
 def yielding(node: LitNode, phase: ActuatedPhase) -> Green:
@@ -88,8 +80,9 @@ def yielding(node: LitNode, phase: ActuatedPhase) -> Green:
 
 def let_go_in_time(rows: Sequence[Green], least_seconds: int, turns: Green) -> Sequence[Green]:
     """The green turns in each second of a phase that may end after `least_seconds`. Of some turns those that are green
-    at its end, and not before its least end, have their first seconds (LAST; not the phase's last one) before that:
-    whatever comes, one vehicle passes in a green, and would else hold up the only lane of an edge for a cycle."""
+    at its end, and not before its least end, as where the last share of a green was surveyed, have their first seconds
+    (LAST; not the phase's last one) before that: whatever comes, one vehicle passes in a green, and would else hold up
+    the only lane of an edge for a cycle."""
     late, moved = (rows[-1] & turns).difference(*rows[:least_seconds]), min(LAST, least_seconds)
     if not late:
         return rows
@@ -100,26 +93,12 @@ def let_go_in_time(rows: Sequence[Green], least_seconds: int, turns: Green) -> S
     return [*rows[:first_green], *let_go, *after[least_seconds:-1], rows[-1]]
 
 
-def settled(node: LitNode, map_node: NodeOf, states: Sequence[str], limits_of: Mapping[str, int]) -> LitNode:
-    """A node with what the import's rules (where the import used them) find of who gives way there in a cycle of these
-    states, one for each second; limits_of: of edges, cells a step."""
-    movements: dict[int, CrossingMovement] = {}
-    if node.permissive is None and map_node.flows and map_node.yields:
-        movements = movements_of(map_node.connections, states, map_node.yields, map_node.flows, limits_of)
-        settle(list(movements.values()))
-    return replace(node, movements=movements)
-
-
-def lit_node(light: str, map_node: NodeOf, mapping: Map, offset: int, cycle: list[tuple[float, str]]) -> LitNode:
-    """A node with a light as the import had it; offset: seconds; cycle: seconds and states of the light's phases."""
-    own_turns = (turn for turn in mapping.turns if mapping.links[turn.link].end == map_node.node)
+def lit_node(light: str, node: int, mapping: Map, offset: int, cycle: list[tuple[float, str]]) -> LitNode:
+    """A node with a light as the import had it; offset: seconds; cycle: seconds and states of the light's phases. Fault
+    where lit_node_of raises one."""
+    own_turns = (turn for turn in mapping.turns if mapping.links[turn.link].end == node)
     turns = [(turn.link, turn.lane, turn.next, turn) for turn in own_turns]
-    edges = {link: mapping.links[link].edge for link, *_ in turns}
-    program = LightProgram(offset, cycle, "actuated")
-    cut, shares = measured_of(mapping)
-    permissive = mapping.options.get("permissive")
-    ways = ways_at(mapping.lit_ways, map_node.node)
-    return LitNode(map_node.node, turns, edges, light, program, permissive, Report(), {}, cut, shares, ways)
+    return lit_node_of(mapping, node, turns, light, LightProgram(offset, cycle, "actuated"), Report())
 
 
 def plan_command(node: int, rows: Sequence[Green], clock: int) -> Command:

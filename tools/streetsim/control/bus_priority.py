@@ -9,7 +9,7 @@ from typing import Any
 
 from streetsim.base.files import Fault
 from streetsim.base.report import first_few
-from streetsim.control.actuated_kept import Listed, node_of
+from streetsim.control.actuated_kept import Listed, nodes_of
 from streetsim.control.actuated_lights import ActuatedLights, DrivenLight, passing
 from streetsim.control.actuated_logic import ActuatedPhase
 from streetsim.control.bus_coordinated import Fixed
@@ -80,8 +80,7 @@ def fixed_light(light: str, programs: Mapping[str, Any], seen_seconds: int) -> F
     if any(seconds != round(seconds) or seconds < 1 for seconds, *_ in program["phases"]):
         raise Listed("as their phases are no whole seconds")
     phases = tuple(bounded(row, seen_seconds) for row in program["phases"])
-    nodes = tuple(node_of(one) for one in program["nodes"])
-    return Fixed(light, round(program["offset"]), phases, 2.0, (), (), nodes, (), program["program"])
+    return Fixed(light, round(program["offset"]), phases, 2.0, (), (), nodes_of(program), (), program["program"])
 
 
 def bounded(row: Sequence[Any], seen_seconds: int) -> ActuatedPhase:

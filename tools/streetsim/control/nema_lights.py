@@ -6,7 +6,7 @@ from math import ceil
 from typing import Any
 
 from streetsim.control.actuated_kept import (
-    OFF_VALUES, Cell, DetectorArea, Listed, NodeOf, node_of, number_of, phase_bounds,
+    OFF_VALUES, Cell, DetectorArea, Listed, nodes_of, number_of, phase_bounds,
 )
 from streetsim.control.actuated_logic import GREEN_LETTERS
 from streetsim.control.nema_logic import Nema
@@ -30,7 +30,7 @@ class DrivenRings:
     name: str
     rings: Rings
     areas: tuple[DetectorArea, ...]
-    nodes: tuple[NodeOf, ...]
+    nodes: tuple[int, ...]  # numbers
     cells: tuple[Cell, ...] = ()  # of detectors: it has areas, which are looked at
     offset: int = 0
     program: str = "0"
@@ -68,7 +68,7 @@ def driven_rings(program: Mapping[str, Any], mapping: Map) -> DrivenRings:
         name=program["light"],
         rings=Rings(phases, orders, barriers_of(parameters, orders)),
         areas=tuple(areas.values()),
-        nodes=tuple(node_of(node) for node in program["nodes"]),
+        nodes=nodes_of(program),
         program=program.get("program", "0"),
     )
 

@@ -4,7 +4,7 @@ goes on."""
 from collections.abc import Iterator, Sequence
 
 from streetsim.base import limits
-from streetsim.control.actuated_showing import WEIGHT, Lengths, lit_node, plan_command, settled
+from streetsim.control.actuated_showing import WEIGHT, Lengths, lit_node, plan_command
 from streetsim.control.nema_lights import DrivenRings
 from streetsim.control.nema_logic import Nema
 from streetsim.control.nema_phases import GREEN, RED, YELLOW, RingPhase, Rings, letters_together
@@ -23,10 +23,9 @@ class ShownRings:
 
     def __init__(self, light: DrivenRings, mapping: Map) -> None:
         """light: what is driven; mapping: of the run whose nodes show it."""
-        self.light, self.limits = light, {link.edge: link.limit for link in mapping.links}
-        phases = light.rings.phases
+        self.light, phases = light, light.rings.phases
         cycle = [(phase.usual, phase.state) for phase in phases]
-        self.nodes = [(map_node, lit_node(light.name, map_node, mapping, 0, cycle)) for map_node in light.nodes]
+        self.nodes = [lit_node(light.name, node, mapping, 0, cycle) for node in light.nodes]
         self.means = {phase.number: min(phase.usual, float(limits.PHASE_STEPS)) for phase in phases}
         self.learned_count = 0  # ended phases that are in the means
         self.cycles: dict[Lengths, list[str]] = {}
@@ -51,10 +50,9 @@ class ShownRings:
         if lengths not in self.cycles:
             self.cycles[lengths] = cycle_of(self.light.rings, dict(zip(self.means, lengths, strict=True)))
         cycle = self.cycles[lengths]
-        for at, (map_node, node) in enumerate(self.nodes):
+        for at, node in enumerate(self.nodes):
             if (at, lengths) not in self.greens:
-                lit = settled(node, map_node, cycle, self.limits)
-                self.greens[at, lengths] = green_seconds(lit, cycle, lit.shown_seconds(cycle), 1, True)
+                self.greens[at, lengths] = green_seconds(node, cycle, node.shown_seconds(cycle), 1, True)
             yield plan_command(node.node, self.greens_by_second(node, cycle, self.greens[at, lengths], clock), clock)
 
     def greens_by_second(self, node: LitNode, cycle: Sequence[str], greens: Sequence[Green], clock: int) -> list[Green]:

@@ -3,17 +3,19 @@ in the next second where the vehicles that are there leave a gap, and red where 
 
 The constants were chosen on lone crosses alone, beside SUMO (one cross each, 50 km/h, lefts on their own lane and on a
 shared one, greens of 14 to 57 s, 0 to 1,000 vehicles an hour against them): the gaps are SUMO's own, AFTER_STAND and
-SNEAK_SECONDS stand for what vehicles do inside a junction, as here they wait at the line.
+SNEAK_SECONDS stand for what vehicles do inside a junction, as here they wait at the line. At lone streets with lefts
+against right turns one that waits 1 or 2 s longer behind whom it joins is nearer to SUMO; this locks the sample town.
 """
 from __future__ import annotations
 
 from collections import Counter
-from collections.abc import Sequence
+from collections.abc import Mapping, Sequence
 from dataclasses import dataclass
 from itertools import takewhile
 
+from streetsim.base.arrays import Array
 from streetsim.control.yielding_fullness import LitFullness
-from streetsim.control.yielding_plans import AS_PLANNED, CLOSED, OPENED, PlansInForce
+from streetsim.control.yielding_plans import AS_PLANNED, CLOSED, OPENED, PlansInForce, ShownPhase
 from streetsim.control.yielding_sight import LinksAhead, LanesSeen
 from streetsim.control.yielding_ways import NO_TURN, Lanes, MeetingTurn, Ways
 from streetsim.kernel.loop import Controller, Kernel, SentLine
@@ -27,6 +29,7 @@ AFTER_STAND = 1.5  # seconds more between two, the first of which stood for LONG
 LONG_STAND = 2  # seconds
 SNEAK_SECONDS = 5  # after the end of a green, in which one goes that stood there
 HALF = 0.5  # of a second, to which clocks are compared
+SURE = 0.9  # of the seconds in which one comes who goes first: before that it has not passed
 QUEUED = 8  # seconds for which others on the lane of one that gave way keep its distance
 LONG_AGO = -99  # a clock
 
@@ -43,6 +46,33 @@ class Front:
     looks: bool = False  # for a gap
 
 
+@dataclass(slots=True)
+class Near:
+    """Who is near the stop lines that are looked at."""
+
+    fronts: list[Front]  # of whom it is to be decided whether they go
+    first: list[tuple[int, int]]  # (lane, car) of those who may pass their line in the next second
+    stay_first: bool  # nobody else there may be first in the next second, as long as these stay
+
+    def is_front(self, slot: int) -> bool:
+        """Whether it is to be decided whether the first one of a lane, which was looked at last, goes."""
+        return bool(self.fronts) and self.fronts[-1].slot == slot
+
+
+@dataclass(slots=True)
+class Blocked:
+    """One that has no gap before a clock: until then one who goes first comes, and has not passed."""
+
+    car: int
+    turn: int
+    until: int
+    phase: ShownPhase  # in which that holds
+
+    def is_of(self, front: Front, clock: int, phase: ShownPhase) -> bool:
+        """Whether it is one that is first now, at a clock and in a phase of its light."""
+        return clock < self.until and self.car == front.car and self.turn == front.turn and self.phase is phase
+
+
 class LitYielding(Controller):
     """Has turns at lights give way to those who come."""
 
@@ -55,7 +85,7 @@ class LitYielding(Controller):
 
     def begin(self, kernel: Kernel) -> None:
         """Nobody waits yet."""
-        self.kernel, self.clock = kernel, kernel.start
+        self.kernel, self.clock, self.acted_at = kernel, kernel.start, kernel.start - 1
         self.last_sent: SentLine | None = None
         self.ways = Ways(self.mapping)
         self.lanes = Lanes(self.mapping, self.ways, kernel.run.load.command["nodes"])
@@ -70,24 +100,31 @@ class LitYielding(Controller):
         self.let_go: list[Front] = []  # in the last second
         self.stood_since: dict[int, int] = {}  # by car the clock since which it stands first
         self.looked_at: set[int] = set()  # lanes in the last second
+        self.blocked: dict[int, Blocked] = {}  # by lane
 
     def next_clock(self) -> int:
-        """The next second."""
-        return self.clock
+        """The next second in which somebody may have to give way; the one after the last where a plan was sent."""
+        sent = self.kernel.sent_lines
+        return self.clock if not sent or sent[-1] is self.last_sent else self.acted_at + 1
 
     def act(self, clock: int, block: Block) -> None:
-        """Closes and opens turns for the next second."""
-        self.clock = clock + 1
+        """Closes and opens turns for the next seconds."""
+        self.fullness.note_seconds(clock - self.acted_at)
+        self.acted_at = clock
         self.note_lines(clock)
         self.plans.advance(clock)
         self.note_left(clock, block)
-        fronts = self.find_fronts(clock, block)
-        meeting = ((front.slot, front.car) for front in fronts if self.plans.is_meeting(front.slot))
-        self.fullness.note_second(clock, self.plans.alert_cell, meeting)
-        if fronts and clock < self.kernel.until:
-            self.decide(clock, block, fronts)
-        else:
-            self.held_cars, self.let_go = {}, []
+        cells_to_come = self.cells_to_come(clock, block)
+        near = self.find_fronts(clock, block, cells_to_come)
+        meeting = (one for one in near.first if self.plans.is_meeting(one[0]))
+        self.fullness.note_fronts(clock, self.plans.alert_cell, meeting)
+        self.held_cars, held_before, self.let_go = {}, self.held_cars, []
+        until = self.plans.next_change()
+        if near.fronts and clock < self.kernel.until:
+            until = min(until, self.decide(clock, block, near.fronts, held_before))
+        self.clock = clock + 1
+        if until > self.clock and near.stay_first and not self.let_go:
+            self.clock = min(until, clock + self.idle_seconds(cells_to_come, block))
 
     def full_passages(self) -> dict[str, int]:
         """By edge with lanes that were full, from which some give way: vehicles that passed these then; the part under
@@ -127,50 +164,72 @@ class LitYielding(Controller):
         self.free_at = {slot: free_at for slot, free_at in self.free_at.items() if free_at > clock - QUEUED}
         return {*self.waited, *self.free_at, *self.plans.changed, *self.lanes.may_stop}
 
-    def find_fronts(self, clock: int, block: Block) -> list[Front]:
-        """Those who are first of lanes where it is to be decided whether they go, and may pass the line in the next
-        second; notes since when they stand there."""
+    def cells_to_come(self, clock: int, block: Block) -> Array:
+        """By row of a second the cells until it may pass its line in the next one, 0 and less where it may; beyond all
+        on lanes that are not looked at."""
         cells = self.plans.alert_cell
         if lively := [slot for slot in self.lively_lanes(clock) if not self.plans.is_meeting(slot)]:
             cells = cells.copy()
             cells[lively] = self.lanes.line_cell[lively]
-        rows = (block.cell >= cells[block.slot]).nonzero()[0]
-        fronts, last_slot, looked_at = [], -1, set()
+        return cells[block.slot] - block.cell
+
+    def find_fronts(self, clock: int, block: Block, cells_to_come: Array) -> Near:
+        """Those who are first of lanes where it is to be decided whether they go, and may pass the line in the next
+        second; notes since when they stand there."""
+        rows = (cells_to_come <= 0).nonzero()[0]
+        near, last_slot, looked_at = Near([], [], True), -1, set()
         columns = (column[rows].tolist() for column in (block.car, block.slot, block.cell, block.speed))
         for car, slot, cell, speed in zip(*columns):
-            left = self.lanes.length[slot] - cell
+            cells_left = self.lanes.length[slot] - cell
             looked_at.add(slot)
-            if slot != last_slot and left <= speed + 1:
-                turn = self.ways.number.get((slot, self.links_ahead.links(car, slot >> 1)[0]), NO_TURN)
-                stands = speed == 0 and left == 1
-                if stands:
-                    self.stood_since.setdefault(car, clock if slot in self.looked_at else clock - 1 - LONG_STAND)
-                if turn != NO_TURN:
-                    fronts.append(Front(car, slot, turn, self.ways.all[turn], stands))
-            last_slot = slot
+            is_first, last_slot = slot != last_slot, slot
+            if not is_first or cells_left > speed + 1:
+                near.stay_first &= not is_first and near.is_front(slot)
+                continue
+            turn = self.ways.number.get((slot, self.links_ahead.links(car, slot >> 1)[0]), NO_TURN)
+            stands = speed == 0 and cells_left == 1
+            if stands:
+                self.stood_since.setdefault(car, clock if slot in self.looked_at else clock - 1 - LONG_STAND)
+            if turn != NO_TURN:
+                near.first.append((slot, car))
+                if self.ways.gives[turn] or slot in self.free_at or slot in self.plans.changed:
+                    near.fronts.append(Front(car, slot, turn, self.ways.all[turn], stands))
         self.looked_at = looked_at
-        return fronts
+        return near
 
-    def decide(self, clock: int, block: Block, fronts: Sequence[Front]) -> None:
-        """Decides of each of those who are first, in their ranks, whether it goes, and shows it."""
-        plans, held_before = self.plans, self.held_cars
+    def idle_seconds(self, cells_to_come: Array, block: Block) -> int:
+        """The seconds in which nobody comes near a stop line who is not there yet; cells_to_come: as found."""
+        seconds = -(-cells_to_come // self.lanes.limits[block.slot])
+        return int(seconds[seconds > 0].min(initial=self.lanes.least_drive))
+
+    def decide(self, clock: int, block: Block, fronts: Sequence[Front], held_before: Mapping[int, int]) -> int:
+        """Decides of each of those who are first, in their ranks, whether it goes, and shows it; gives the clock until
+        which that stays. held_before: by lane who stood there in the last second and was to wait."""
+        plans = self.plans
         for front in fronts:
             front.looks = plans.meets(front.turn) or (front.stands and self.may_go_late(clock, front))
         looking = sorted((front for front in fronts if front.looks), key=lambda front: (front.way.rank, front.slot))
-        self.held_cars, self.let_go = {}, []
         goes_by_turn = {front.turn: self.goes_as_planned(clock, front) for front in fronts if not front.looks}
-        if looking:
-            slots = set[int]().union(*(plans.seen_lanes(front.turn) for front in looking))
-            seen = LanesSeen(clock, block, slots, self.links_ahead, plans, held_before)
-            going: set[int] = set()
-            for front in looking:
-                goes_by_turn[front.turn] = self.has_gap(clock, front, seen, going)
-                if goes_by_turn[front.turn]:
-                    going.add(front.turn)
-                    self.let_go.append(front)
-                elif front.stands and plans.is_green(front.turn):
-                    self.held_cars[front.slot], self.waited[front.slot] = front.car, (front.car, clock)
+        awake = {front.slot for front in looking if not self.is_blocked(clock, front)}
+        seen_slots = frozenset[int]().union(*(plans.seen_lanes(front.turn) for front in looking if front.slot in awake))
+        seen = LanesSeen(clock, block, seen_slots, self.links_ahead, plans, held_before)
+        going: set[int] = set()
+        for front in looking:
+            goes_by_turn[front.turn] = front.slot in awake and self.has_gap(clock, front, seen, going)
+            if goes_by_turn[front.turn]:
+                going.add(front.turn)
+                self.let_go.append(front)
+            elif front.stands and plans.is_green(front.turn):
+                self.held_cars[front.slot], self.waited[front.slot] = front.car, (front.car, clock)
         self.show(goes_by_turn)
+        if all(front.looks and front.stands and self.is_blocked(clock, front) for front in fronts):
+            return min(self.blocked[front.slot].until for front in fronts)
+        return clock
+
+    def is_blocked(self, clock: int, front: Front) -> bool:
+        """Whether one has no gap as long as one does not pass who goes first."""
+        blocked = self.blocked.get(front.slot)
+        return blocked is not None and blocked.is_of(front, clock, self.plans.phase(front.turn))
 
     def may_go_late(self, clock: int, front: Front) -> bool:
         """Whether one that stands goes though its light is red, as soon as there is a gap: it waited there in the
@@ -191,12 +250,16 @@ class LitYielding(Controller):
         if self.free_at.get(front.slot, LONG_AGO) > clock + HALF:
             return False
         follows = clock - self.left_at.get(front.turn, LONG_AGO) <= FOLLOWING
-        needed = STANDING_GAP if front.stands or follows else ROLLING_GAP
-        needed += LONGER * (int(self.links_ahead.vehicles.size[front.car]) - 1)
+        gap_needed = STANDING_GAP if front.stands or follows else ROLLING_GAP
+        gap_needed += LONGER * (int(self.links_ahead.vehicles.size[front.car]) - 1)
         for foe, is_crossed in front.way.foes.items():
             if foe in lanes_seen.turns_passed:
                 return False
-            if is_crossed and lanes_seen.seconds.get(foe, needed) < needed and not self.waits(foe, lanes_seen, going):
+            seconds = lanes_seen.seconds.get(foe, gap_needed)
+            if is_crossed and seconds < gap_needed and not self.waits(foe, lanes_seen, going):
+                if not self.plans.gives(foe) and self.plans.is_green(front.turn):
+                    until, phase = clock + int(SURE * seconds), self.plans.phase(front.turn)
+                    self.blocked[front.slot] = Blocked(front.car, front.turn, until, phase)
                 return False
         return True
 

@@ -21,16 +21,24 @@ class LitFullness:
         self.open, self.end = np.zeros(slots, np.int64), start + PART_SECONDS
         self.busy, self.passing = Counter[int](), Counter[int]()
         self.first: dict[int, int] = {}  # by lane who was first last
+        self.meets = np.zeros(slots, bool)  # whether the turns of a lane met others last
+        self.firsts: list[int] = []  # lanes with somebody first last
         self.passages = defaultdict[int, int](int)  # by lane that was full: vehicles in the parts in which it was
 
-    def note_second(self, clock: int, alert_cell: Array, fronts: Iterable[tuple[int, int]]) -> None:
-        """Takes a second. alert_cell: by lane, NO_CELL where its turns meet nobody; fronts: (lane, car) of those who
+    def note_seconds(self, seconds: int) -> None:
+        """Counts the seconds that were as the last one that was noted."""
+        self.open[self.meets] += seconds
+        for slot in self.firsts:
+            self.busy[slot] += seconds
+
+    def note_fronts(self, clock: int, alert_cell: Array, fronts: Iterable[tuple[int, int]]) -> None:
+        """Notes a second. alert_cell: by lane, NO_CELL where its turns meet nobody; fronts: (lane, car) of those who
         are first at stop lines."""
         if clock >= self.end:
             self.end_part()
-        self.open += alert_cell != NO_CELL
+        self.meets, self.firsts = alert_cell != NO_CELL, []
         for slot, car in fronts:
-            self.busy[slot] += 1
+            self.firsts.append(slot)
             if self.first.get(slot) != car:
                 self.first[slot] = car
                 self.passing[slot] += 1

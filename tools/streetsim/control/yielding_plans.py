@@ -4,14 +4,15 @@ from __future__ import annotations
 
 import heapq
 import json
+from bisect import bisect_right
 from collections import defaultdict
 from collections.abc import Iterable, Sequence
-from itertools import accumulate, groupby
-from typing import NamedTuple
+from dataclasses import dataclass, field
+from itertools import groupby
 
 from streetsim.base.arrays import Array, numpy as np
 from streetsim.control.yielding_ways import NO_CELL, Lanes, Ways
-from streetsim.kernel.loop import own_line
+from streetsim.kernel.loop import NEVER, own_line
 from streetsim.model.runs import Command, Line
 
 # Seconds of red between two greens of a turn, and at the begin of a green, by which the import has its queue leave as
@@ -21,16 +22,15 @@ MOST_HELD, ROUNDED = 0.4, 2.0  # share of a green that is held back from its hal
 AS_PLANNED, CLOSED, OPENED = MODES = 0, 1, 2  # what a turn shows beside its plan
 
 
-class ShownPhase(NamedTuple):
+@dataclass(slots=True, eq=False)
+class ShownPhase:
     """A phase of a node's plan, by numbers of turns that are looked at."""
 
     greens: frozenset[int]
     coming: frozenset[int]  # by which somebody may come
     meets: frozenset[int]  # green ones, where somebody may come before whom they give way
-    slots: Array  # the lanes of those
-
-
-NOTHING_SHOWN = ShownPhase(frozenset(), frozenset(), frozenset(), ())
+    slots: frozenset[int]  # the lanes of those
+    seen_lanes: dict[int, frozenset[int]] = field(default_factory=dict)  # by turn, as far as it was asked for
 
 
 class NodePlan:
@@ -41,26 +41,34 @@ class NodePlan:
         self.command, self.turns, self.names = command, turns, [ways.all[turn].name for turn in turns]
         seconds = [length for length, _ in command["phases"]]
         shown = [{tuple(turn) for turn in green} for _, green in command["phases"]]
-        self.ends = [*accumulate(seconds)]
         goes_before = np.array([[foe in ways.all[turn].foes for foe in turns] for turn in turns], np.int64)
         greens = np.array([[name in green for name in self.names] for green in shown], bool)
         comes = with_held_back(greens, np.array(seconds), goes_before)
         meets = greens & (comes.astype(np.int64) @ goes_before.T > 0)
         self.phases = [self.phase_of(ways, *rows) for rows in zip(greens, comes, meets)]
+        self.by_second = [phase for phase, length in zip(self.phases, seconds) for _ in range(length)]
+        # Seconds of the cycle at which the lanes change on which some meet others.
+        self.changes = [at for at, one in enumerate(self.by_second) if one.slots != self.by_second[at - 1].slots]
         self.giving = frozenset[int]().union(*(phase.meets for phase in self.phases))  # turns that meet others in any
         self.lines: dict[tuple[int, tuple[int, ...]], Line] = {}
 
     def phase_of(self, ways: Ways, *rows: Array) -> ShownPhase:
         """A phase, by whether each turn is green, somebody may come by it, and it meets others."""
         greens, comes, meets = (frozenset(self.turns[at] for at in row.nonzero()[0].tolist()) for row in rows)
-        slots = sorted({ways.all[turn].slot for turn in meets})
-        return ShownPhase(greens, comes, meets, np.array(slots, np.int64))
+        return ShownPhase(greens, comes, meets, frozenset(ways.all[turn].slot for turn in meets))
 
-    def phase_at(self, clock: int, offset: int) -> tuple[int, int]:
-        """(the phase at a clock, how many of its seconds are left)."""
-        second = (clock + offset) % self.ends[-1]
-        phase = next(at for at, end in enumerate(self.ends) if second < end)
-        return phase, self.ends[phase] - second
+    def phase_at(self, clock: int, offset: int) -> ShownPhase:
+        """The phase at a clock."""
+        return self.by_second[(clock + offset) % len(self.by_second)]
+
+    def next_change(self, clock: int, offset: int) -> int | None:
+        """The next clock at which the lanes change on which some meet others; None where they never do."""
+        if not self.changes:
+            return None
+        cycle = len(self.by_second)
+        second = (clock + offset) % cycle
+        at = bisect_right(self.changes, second)
+        return clock + (self.changes[at] if at < len(self.changes) else self.changes[0] + cycle) - second
 
     def line(self, offset: int, modes: tuple[int, ...]) -> Line:
         """The line that shows the plan from its offset on, with turns closed or opened by their modes."""
@@ -121,12 +129,16 @@ class PlansInForce:
         self.plans: dict[int, NodePlan] = {}
         self.offsets: dict[int, int] = {}
         self.plan_by_key: dict[str, NodePlan] = {}  # by node and phases
-        self.phases = dict.fromkeys(self.turns_at, NOTHING_SHOWN)  # by node what is shown now
+        nobody = frozenset[int]()
+        self.clock, self.nothing_shown = 0, ShownPhase(nobody, nobody, nobody, nobody)
+        self.phases: dict[int, ShownPhase] = {}  # by node what is shown at the clock, as far as it was asked for
+        self.meeting: dict[int, frozenset[int]] = {}  # by node the lanes on which some meet others at the clock
         self.mode = [AS_PLANNED] * len(ways.all)
         self.changed: dict[int, set[int]] = {}  # by lane the turns that are not as planned
         # By lane the cell from which on one may pass the line in the next second, where some meet others.
         self.alert_cell = np.full(len(lanes.length), NO_CELL)
-        self.due: list[tuple[int, int, int]] = []  # clock, node and number of the plan at whose next phase to look
+        # Clock, node and number of the plan of the next changes of lanes on which some meet others.
+        self.due: list[tuple[int, int, int]] = []
         self.number: dict[int, int] = {}
 
     def note(self, clock: int, command: Command) -> None:
@@ -144,24 +156,35 @@ class PlansInForce:
 
     def advance(self, clock: int) -> None:
         """Brings what is green to a clock."""
+        self.clock = clock
+        self.phases.clear()
         while self.due and self.due[0][0] <= clock:
             _, node, number = heapq.heappop(self.due)
             if number == self.number[node]:
-                phase, left = self.plans[node].phase_at(clock, self.offsets[node])
-                self.show_phase(node, phase)
-                if len(self.plans[node].ends) > 1:
-                    heapq.heappush(self.due, (clock + left, node, number))
+                plan, offset = self.plans[node], self.offsets[node]
+                self.show_meeting(node, plan.phase_at(clock, offset).slots)
+                if (later := plan.next_change(clock, offset)) is not None:
+                    heapq.heappush(self.due, (later, node, number))
 
-    def show_phase(self, node: int, phase: int) -> None:
-        """Takes a phase of a node's plan."""
-        if len(before := self.phases[node].slots):
-            self.alert_cell[before] = NO_CELL
-        self.phases[node] = shown = self.plans[node].phases[phase]
-        self.alert_cell[shown.slots] = self.lanes.line_cell[shown.slots]
+    def next_change(self) -> int:
+        """The next clock at which the lanes change on which some meet others, as far as it is known."""
+        return self.due[0][0] if self.due else NEVER
+
+    def show_meeting(self, node: int, slots: frozenset[int]) -> None:
+        """Takes the lanes of a node on which some meet others."""
+        before = [*self.meeting.get(node, ())]
+        self.alert_cell[before] = NO_CELL
+        self.meeting[node], now = slots, [*slots]
+        self.alert_cell[now] = self.lanes.line_cell[now]
 
     def phase(self, turn: int) -> ShownPhase:
         """What the plan of a turn's node shows now."""
-        return self.phases[self.ways.all[turn].node]
+        node = self.ways.all[turn].node
+        if (phase := self.phases.get(node)) is None:
+            plan = self.plans.get(node)
+            phase = plan.phase_at(self.clock, self.offsets[node]) if plan else self.nothing_shown
+            self.phases[node] = phase
+        return phase
 
     def is_green(self, turn: int) -> bool:
         """Whether the plan has a turn green now."""
@@ -180,17 +203,20 @@ class PlansInForce:
         plan = self.plans.get(self.ways.all[turn].node)
         return plan is not None and turn in plan.giving
 
-    def seen_lanes(self, turn: int) -> set[int]:
+    def seen_lanes(self, turn: int) -> frozenset[int]:
         """The lanes on which those are who go before a turn and may come, as far as they are seen; of one that has red,
         who may have come, too."""
-        foes = {*self.ways.all[turn].foes}
-        if self.is_green(turn):
-            foes &= self.phase(turn).coming
-        return {slot for foe in foes for slot in self.lanes.seen_by[foe]}
+        phase = self.phase(turn)
+        if (lanes := phase.seen_lanes.get(turn)) is None:
+            foes = self.ways.all[turn].foes.keys()
+            coming = foes & phase.coming if turn in phase.greens else foes
+            lanes = frozenset(slot for foe in coming for slot in self.lanes.seen_by[foe])
+            phase.seen_lanes[turn] = lanes
+        return lanes
 
     def is_meeting(self, slot: int) -> bool:
         """Whether some of a lane meet others now."""
-        return bool(self.alert_cell[slot] != NO_CELL)
+        return slot in self.meeting.get(self.lanes.node[slot], ())
 
     def is_shown(self, turn: int) -> bool:
         """Whether a turn is shown green now."""

@@ -1,7 +1,7 @@
 """What those see who give way: in how many seconds the first one comes to each stop line, and who has just passed."""
 from __future__ import annotations
 
-from collections.abc import Iterable, Mapping
+from collections.abc import Collection, Mapping
 
 from streetsim.base.arrays import numpy as np
 from streetsim.control.yielding_plans import PlansInForce
@@ -34,7 +34,7 @@ class LanesSeen:
     """Some lanes in one second."""
 
     def __init__(
-        self, clock: int, block: Block, slots: Iterable[int], links_ahead: LinksAhead, plans: PlansInForce,
+        self, clock: int, block: Block, slots: Collection[int], links_ahead: LinksAhead, plans: PlansInForce,
         held_cars: Mapping[int, int],
     ) -> None:
         """slots: that are looked at; plans: by which turns have green; held_cars: by slot who stood there in the
@@ -43,15 +43,18 @@ class LanesSeen:
         self.ways, self.lanes, self.may_come = plans.ways, plans.lanes, plans.may_come
         self.seconds: dict[int, float] = {}  # by turn until the first one comes who may go on
         self.turns_passed: set[int] = set()  # the turns by which one passed in the last second
+        self.vehicles: dict[int, list[tuple[int, int, int]]] = {}  # by lane: car, cell, speed
+        if not slots:
+            return
         wanted = np.array(sorted(slots), np.int32)
         bounds = zip(wanted.tolist(), *(block.slot.searchsorted(wanted, side).tolist() for side in ("left", "right")))
-        rows = {slot: slice(begin, end) for slot, begin, end in bounds if begin < end}
         columns = block.car, block.cell, block.speed
-        self.vehicles = {slot: [*zip(*(column[own].tolist() for column in columns))] for slot, own in rows.items()}
-        for slot in self.vehicles:
-            self.see_lane(slot)
-        for slot, sources in self.lanes.sources.items():
-            for other in sources if slot in slots else ():
+        for slot, begin, end in bounds:
+            if begin < end:
+                self.vehicles[slot] = [*zip(*(column[begin:end].tolist() for column in columns))]
+                self.see_lane(slot)
+        for slot in self.lanes.sources.keys() & slots:
+            for other in self.lanes.sources[slot]:
                 self.see_before(slot, other)
 
     def turn(self, car: int, slot: int) -> int:

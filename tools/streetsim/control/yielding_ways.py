@@ -53,6 +53,7 @@ class Ways:
         self.number = {(way.slot, way.name[2]): at for at, way in enumerate(self.all)}
         self.nodes = sorted({node_ways.node for node_ways in mapping.lit_ways})
         self.set_foes(mapping)
+        self.gives = [way.gives for way in self.all]  # by turn
         for _ in range(MOST_RANKS):
             for way in self.all:
                 behind = (self.all[foe].rank + 1 for foe in way.foes if self.all[foe].gives)
@@ -80,8 +81,12 @@ class Lanes:
         """nodes: of the load: number, seconds in the buffer, vehicles that it holds."""
         links = [link for link in mapping.links for _ in (0, 1)]
         self.length, self.limit = [link.cells for link in links], [link.limit for link in links]
+        self.node = [link.end for link in links]
         self.residence, self.room = [nodes[link.end][1] for link in links], [nodes[link.end][2] for link in links]
         self.may_stop = {way.slot for way in ways.all if way.may_stop}
+        self.limits = np.array(self.limit)
+        # Seconds in which nobody gets from the begin of a lane near its stop line, one at least.
+        self.least_drive = min((self.length[way.slot] // self.limit[way.slot] - 1 for way in ways.all), default=1)
         # By slot the cell from which on one may pass the line in a step.
         self.line_cell = np.array([length - limit for length, limit in zip(self.length, self.limit)])
         first = {ways.all[foe].slot for way in ways.all for foe in way.foes}

@@ -46,6 +46,7 @@ class DemandInputs:
     everywhere: bool = False  # trips begin and end on any edge
     error: float = fitting.ERROR  # of a count, as a share, by which it is taken to be wrong
     seed: int = 1
+    smallest: bool = False  # as few vehicles as meet the counts
 
 
 @dataclass(frozen=True, slots=True)
@@ -94,11 +95,12 @@ def basis_of(town: RouteTown, inputs: DemandInputs, report_stage: ReportStage) -
     numpy_and_scipy()
     check_inputs(inputs)
     report_stage("reading counts")
-    counts = read_counts(inputs.counts, inputs.attribute)
+    unloaded = map_without_routes(town.net, town.options)
+    counts = read_counts(inputs.counts, inputs.attribute, unloaded)
     if counts:
         checking.check_counts(counts, town.net, town.graph)
     free = list(times_and_capacities_without_routes(town.net, town.graph, town.options)[0])
-    driven = free_seconds(town.graph, map_without_routes(town.net, town.options), [], town.dawdle)
+    driven = free_seconds(town.graph, unloaded, [], town.dawdle)
     zones, cells = read_matrix(inputs, counts, town)
     kinds = kinds_of(counts, cells)
     add_types(kinds, town.types)
@@ -338,7 +340,9 @@ def expected_vehicles(basis: Basis, inputs: DemandInputs, kind: str, base: Spars
         for count in whole
     ]
     remaining = numpy.maximum(targets[rows] - numpy.array(less), 0.0)
-    return Expecting(basis.ways, basis.pairs, basis.slices, inputs.error).vehicles_by_counts(base[rows], remaining)
+    return Expecting(basis.ways, basis.pairs, basis.slices, inputs.error, inputs.smallest).vehicles_by_counts(
+        base[rows], remaining
+    )
 
 
 def trips_of_fit(basis: Basis, inputs: DemandInputs, fitted: Fitted) -> list[Trip]:

@@ -3,6 +3,7 @@ matrices are sparse."""
 from collections.abc import Sequence
 from dataclasses import dataclass
 
+from streetsim.base.files import Fault
 from streetsim.demand.candidates import HABITS, End, Pair, Way, shares_by_habit
 from streetsim.demand.passing import Slices
 from streetsim.demand.science import Array, Sparse, numpy_and_scipy
@@ -15,6 +16,7 @@ ENDS_ROUNDS = 6  # in which the trips that begin and end on each edge, or in eac
 OUTSIDE = (0, 2, 4)  # times doubled, that an end outside has more than one within: what fits best
 HALF = 0.5  # of what is expected of a way, by how many begin and how many end where it does
 LEAST_EXPECTED = 1e-6  # vehicles that are expected of a way and slice at least, so that it is not ruled out
+SURE = 1e3  # vehicles that are worth one deviation of a count, where the smallest demand is wanted
 STEPS = 500  # of the search for the least squares, at most
 
 
@@ -60,6 +62,21 @@ def least_squares(problem: Problem) -> tuple[Array, float]:
     return solution.x * root, 2 * float(solution.fun)
 
 
+def smallest_vehicles(passing: Sparse, targets: Array, deviation: Array) -> Array:
+    """The vehicles of each column, 0 at least, as an array, whose sum is least of all that meet the counts as nearly as
+    any can, by the sum of what is apart over the deviations. Fault where no solution is found. passing, targets,
+    deviation: as `Problem` has them."""
+    numpy, scipy = numpy_and_scipy()
+    rows, columns = passing.shape
+    apart = scipy.sparse.identity(rows)
+    weights = numpy.concatenate((numpy.ones(columns), numpy.tile(SURE / deviation, 2)))
+    equal = scipy.sparse.hstack([passing, apart, -apart]).tocsr()
+    solution = scipy.optimize.linprog(weights, A_eq=equal, b_eq=targets, bounds=(0, None), method="highs")
+    if solution.x is None:
+        raise Fault(f"--smallest: no demand was found: {solution.message}")
+    return solution.x[:columns]
+
+
 class TripEnds:
     """The edges or zones where trips begin, or those where they end, by number: of_way has the number of each way's;
     weight and outside (1, or 0: within) are those of each."""
@@ -88,9 +105,12 @@ class Expecting:
     """What is expected of ways and slices by counts alone: how much each slice has by all counts together, and how much
     begins and ends on each edge, or in each zone."""
 
-    def __init__(self, ways: Sequence[Way], pairs: Sequence[Pair], slices: Slices, error: float) -> None:
-        """error: share of a count by which it is taken to be wrong."""
+    def __init__(
+        self, ways: Sequence[Way], pairs: Sequence[Pair], slices: Slices, error: float, is_smallest: bool = False
+    ) -> None:
+        """error: share of a count by which it is taken to be wrong; is_smallest: as few as meet the counts."""
         numpy, _ = numpy_and_scipy()
+        self.is_smallest = is_smallest
         self.slices, self.error, self.ways = slices, error, ways
         way_pairs = [pairs[way.pair] for way in ways]
         self.begins = TripEnds([pair.source for pair in way_pairs], [pair.begins for pair in way_pairs])
@@ -99,10 +119,10 @@ class Expecting:
         self.outside = 2.0 ** sum(outside)  # doubles for each end of a way that lies outside
 
     def vehicles_by_counts(self, passing: Sparse, targets: Array) -> Array:
-        """The vehicles of each way and slice, an array in one row at index way * slices + slice, by counts alone:
-        at first by the habit of drivers (none is tried where a way's share is given), and by what ends outside have
-        more, that fit the counts best; then half by how many begin and end where it does, and half by what the counts
-        have shown of each way. passing, targets: as `Problem` has them."""
+        """The vehicles of each way and slice, an array in one row at index way * slices + slice, by counts alone: at
+        first by the habit of drivers (none is tried where a way's share is given), and by what ends outside have more,
+        that fit the counts best; then the smallest numbers, if these are wanted, or else half by how many begin and end
+        where it does, and half by what the counts have shown of each way. passing, targets: as `Problem` has them."""
         numpy, _ = numpy_and_scipy()
         deviation, share = deviations(targets, self.error), numpy.array([way.share for way in self.ways])
         if all(way.ends_share is not None for way in self.ways):
@@ -111,6 +131,9 @@ class Expecting:
         starts = [self.vehicles_by_ends(share * self.outside**exponent, share) for exponent in OUTSIDE]
         start = min(starts, key=lambda vehicles: self.misfit(passing, targets, vehicles))
         base, rates = self.ways_and_slices(passing, targets, start)
+        if self.is_smallest:
+            base = smallest_vehicles(pooled_columns(passing, rates), targets, deviation)
+            return numpy.outer(numpy.maximum(base, LEAST_EXPECTED), rates).ravel()
         for _ in range(ENDS_ROUNDS):
             fitted = least_squares(Problem(pooled_columns(passing, rates), base, targets, deviation))[0]
             mixed = HALF * self.vehicles_by_ends(fitted, share) + (1 - HALF) * fitted

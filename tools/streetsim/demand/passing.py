@@ -14,6 +14,7 @@ from streetsim.sumo.router import Path
 from streetsim.sumo.way_costs import Costs, Table
 from streetsim.sumo.way_graph import END, Graph
 
+WIDEST_LEAD = 900  # seconds of a width in which the slice is told that leads in
 MOST_UNKNOWNS = 5_000_000
 
 
@@ -36,10 +37,10 @@ class Slices:
 
 def slices_of(bounds: Iterable[int], lead: float, begin: int) -> Slices:
     """Slices between bounds in seconds, two at least, and before them one that leads in, for those who are on their way
-    when counting begins: as long as `lead` seconds need, in whole widths of the narrowest slice, but not before the
-    clock `begin`; none where this leaves it no second."""
+    when counting begins: as long as `lead` seconds need, in whole widths of the narrowest slice, a quarter of an hour
+    at most, but not before the clock `begin`; none where this leaves it no second."""
     period_bounds = sorted(set(bounds))
-    width = min(later - sooner for sooner, later in pairwise(period_bounds))
+    width = min(WIDEST_LEAD, *(later - sooner for sooner, later in pairwise(period_bounds)))
     early = max(begin, period_bounds[0] - ceil(lead / width) * width)
     return Slices((early, *period_bounds), True) if early < period_bounds[0] else Slices(tuple(period_bounds), False)
 

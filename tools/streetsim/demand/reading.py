@@ -4,8 +4,11 @@ from collections.abc import Iterable, Iterator
 
 from streetsim.base.files import Fault, FilePath
 from streetsim.demand.cells import begins_with, clock_of, name_of, period_of, table_rows, vehicle_number
+from streetsim.demand.grids import WORKBOOK, rows_of_text
 from streetsim.demand.tags import Tag, read_tags
+from streetsim.demand.turning_edges import counts_at_junctions
 from streetsim.demand.values import Count
+from streetsim.model.mapping import Map
 
 COLUMNS = ("begin", "end", "from", "to", "vehicles")
 OPTIONAL_COLUMNS = ("class", "group")
@@ -15,16 +18,31 @@ BY_EDGE = (("left", "arrived"), ("entered", "departed"), ("count",), ("vehicles"
 BY_TURN = (("count",), ("vehicles",))
 
 
-def read_counts(paths: Iterable[FilePath], attribute: str | None = None) -> list[Count]:
+def read_counts(paths: Iterable[FilePath], attribute: str | None = None, mapping: Map | None = None) -> list[Count]:
     """The counts of files, in their order; Fault where a file cannot be read, is no file of counts, or has none.
-    attribute: of SUMO's files, the one that is the count; none: the usual ones."""
+    attribute: of SUMO's files, the one that is the count; none: the usual ones; mapping: whose junctions turning counts
+    name, none where these are not taken."""
     counts: list[Count] = []
     for path in paths:
-        file_counts = list(counts_in_sumo(path, attribute) if begins_with(path, "<") else counts_in_table(path))
+        if begins_with(path, "<"):
+            file_counts = list(counts_in_sumo(path, attribute))
+        elif mapping is not None and has_turns(path):
+            file_counts = counts_at_junctions(path, mapping)
+        else:
+            file_counts = list(counts_in_table(path))
         if not file_counts:
             raise Fault(f"{path}: no count is in it")
         counts += file_counts
     return counts
+
+
+def has_turns(path: FilePath) -> bool:
+    """Whether a table has turning counts by arms, not counts of edges: a workbook, or one without most columns of
+    these. Fault where it cannot be read."""
+    if str(path).lower().endswith(WORKBOOK):
+        return True
+    first = next(rows_of_text(path), None)
+    return first is not None and len({text.lower() for text in first.texts} & {*COLUMNS}) < 3
 
 
 def counts_in_table(path: FilePath) -> Iterator[Count]:

@@ -16,6 +16,7 @@ MOST_TOLD = 3  # places in a last line
 QUEUE_GOES_ON = 900  # seconds for which the queue of a lane that was full goes on
 SPREAD = 0.25  # of the time lost in an approach or at a junction, from which on doubted movements doubt it
 DOUBTED = "streetsim.not-trusted"  # the parameter of a light's program that says why what made it is not to be trusted
+Place = tuple[str, ...]  # of a doubt
 NEEDED_FIELDS = ("kind", "junction", "edge", "why", "touches")  # what each doubt has
 
 
@@ -80,11 +81,15 @@ def doubt_rows(doubts: Iterable[Doubt]) -> list[Json]:
 def worst_first(doubts: Iterable[Doubt]) -> list[Doubt]:
     """Of each place and interval the worst, the worst of all first."""
     ranked = sorted(doubts, key=lambda one: one.weight(), reverse=True)
-    places: dict[tuple[str, ...], Doubt] = {}
+    places: dict[Place, Doubt] = {}
     for one in ranked:
-        place = (one.kind, one.edge) if one.kind == OF_WORKS else (one.junction, one.edge, one.target)
-        places.setdefault(place, one)
+        places.setdefault(place_of(one), one)
     return list(places.values())
+
+
+def place_of(doubt: Doubt) -> Place:
+    """Its place, without lane and times."""
+    return (doubt.kind, doubt.edge) if doubt.kind == OF_WORKS else (doubt.junction, doubt.edge, doubt.target)
 
 
 def places_told(doubts: Sequence[Doubt], mapping: Map) -> str:
@@ -161,8 +166,10 @@ def touches_movement(doubt: Doubt, target: str, lanes: set[str]) -> bool:
 
 
 def why_of(doubts: Iterable[Doubt]) -> str:
-    """The reasons of some doubts, each once, for a cell of a table; empty of none."""
-    return "; ".join(dict.fromkeys(one.why for one in doubts))
+    """The reasons of some doubts, each once and of those with a size the greatest alone, for a cell of a table; empty
+    of none."""
+    ranked = sorted(doubts, key=lambda one: one.size, reverse=True)
+    return "; ".join(dict.fromkeys(one.why for one in [*ranked[:1], *(one for one in ranked[1:] if not one.size)]))
 
 
 def doubts_by_seed(settings: Mapping[int, Sequence[Doubt]]) -> list[Doubt]:

@@ -18,7 +18,7 @@ from streetsim.model.starting import SlowStarts
 from streetsim.model.stops import Visit
 from streetsim.model.waiting import GivingWay, LitWays, giving_way_of, lit_ways_of
 
-VERSION = 3
+VERSION = WITH_LIT_WAYS = 3
 Place = tuple[int, int]  # a link and a lane of it
 Shape = Sequence[Sequence[float]]  # of (x, y)
 KEYS = ("nodes", "links", "turns", "signals", "cars", "options", "warnings")
@@ -141,6 +141,7 @@ class Map:
     # By light, of those whose plan a search made that is not to be trusted, why it is not.
     doubted_plans: dict[str, str] = field(default_factory=dict)
     lit_ways: list[LitWays] = field(default_factory=list)  # who gives way at lights
+    version: int = VERSION  # of the file that it is of
 
     def __post_init__(self) -> None:
         """Finds the links of each edge."""
@@ -151,6 +152,11 @@ class Map:
     def invented(self) -> str:
         """What is to be said where vehicles are invented; empty where none is."""
         return TOLD_INVENTED if any(name.startswith(INVENTED) for name in self.cars) else ""
+
+    @property
+    def says_who_gives_way(self) -> bool:
+        """Whether it was made by an import that says who gives way at lights."""
+        return self.version >= WITH_LIT_WAYS
 
     def lane_name(self, link: int, lane: int) -> str:
         """SUMO's id of a lane, EDGE_INDEX, by the numbers of the run."""
@@ -172,7 +178,7 @@ class Map:
     def written(self) -> Json:
         """The content of the map's file, a dict to be dumped as JSON, which `map_from` reads."""
         return {
-            "version": VERSION,
+            "version": self.version,
             "nodes": columns(MapNode._fields, self.nodes),
             "links": columns_of(MapLink, self.links),
             "turns": columns_of(MapTurn, self.turns),
@@ -230,7 +236,7 @@ def map_from(path: FilePath, content: Json) -> Map:
     if (version := content.get("version", 1)) not in (1, 2, VERSION):
         raise Fault(f"{path}: a map of version {version}, and these tools read 1 to {VERSION}: import the run anew")
     try:
-        fields: Json = {key: content[key] for key in ("cars", "options", "warnings")}
+        fields: Json = {"version": version} | {key: content[key] for key in ("cars", "options", "warnings")}
         fields["nodes"], fields["signals"] = rows_of(MapNode, content["nodes"]), rows_of(MapSignal, content["signals"])
         fields["links"], fields["turns"] = rows_of(MapLink, content["links"]), rows_of(MapTurn, content["turns"])
         fields |= {name: content.get(name, []) for name in ("actuated", "rings", "programs", "fixed", "timings")}

@@ -1,7 +1,7 @@
 """Makes and writes the rows of the tables movements.csv, approaches.csv and junctions.csv."""
 import contextlib
 from collections import defaultdict
-from collections.abc import Iterable, Mapping, Sequence
+from collections.abc import Collection, Iterable, Iterator, Mapping, Sequence
 from dataclasses import dataclass, replace
 
 from streetsim.model.doubts import ALL, APPROACH, LANE, MOVEMENT, SPREAD, Doubt, DoubtsByPlace, why_of
@@ -12,7 +12,9 @@ from streetsim.model.tables import APPROACHES, JUNCTIONS, MOVEMENTS, Entry
 from streetsim.observe.junction_layout import Approach
 from streetsim.observe.junction_measures import Interval, Losses, weighted_mean_losses
 
-NEARLY_FULL = 0.9  # v/c of a movement from which on its delay and queue may be other than in SUMO
+# v/c of a movement from which on its delay and queue may be other than in SUMO: where some on its lane wait for gaps at
+# a light (chosen on six lone lights, bench/run doubted-rows 51937 --part 1-7), and where nobody does.
+NEARLY_FULL_WAITING, NEARLY_FULL = 0.75, 0.9
 SEEN_FULL = 0.85  # v/c of a lane in a run, from which on the demand's doubt of it holds
 OVERFULL, SPILLS = 1.0, 0.1  # v/c, and share of cycles in which a lane is full: from there on its queue stands beyond
 MOVEMENT_SHARE = 0.05  # of a movement's vehicles, from which on a lane counts for its queue
@@ -34,14 +36,15 @@ class MovementRow:
 class JunctionTables:
     """The rows of the three tables, by interval; what nobody used in an interval has none. filled: the edges of the
     approaches that a queue filled in any interval; found: the doubts of rows by their own values; held: those of lanes
-    that are full by the demand and were seen to be in any interval."""
+    that are full by the demand and were seen to be in any interval, with their greatest v/c."""
 
     def __init__(
-        self, approaches: Mapping[str, Approach], mapping: Map, doubts: Iterable[Doubt] = (), cut: Iterable[str] = ()
-    ) -> None:
+        self, approaches: Mapping[str, Approach], mapping: Map, doubts: Iterable[Doubt] = (),
+        cut: Iterable[str] = (), giving: Iterable[Place] = (),
+    ) -> None:  # fmt: skip
         """approaches: by edge, as `approaches_of` gives them, of a map; doubts: with places; cut: edges of approaches
-        to which further edges lead that no table has."""
-        self.full, self.mapping = mapping.full.junctions(), mapping
+        to which further edges lead that no table has; giving: lanes from which some wait for gaps at lights."""
+        self.full, self.mapping, self.giving = mapping.full.junctions(), mapping, {*giving}
         self.doubts, self.cut = DoubtsByPlace(doubts), {*cut}
         self.by_junction: defaultdict[str, list[Approach]] = defaultdict(list)
         for approach in approaches.values():
@@ -52,7 +55,7 @@ class JunctionTables:
         self.junctions: list[Entry] = []
         self.filled: set[str] = set()
         self.doubts_found: list[Doubt] = []
-        self.doubts_held: set[Doubt] = set()
+        self.doubts_held: dict[Doubt, float] = {}
         self.doubts_before: dict[str, list[Doubt]] = {}  # by approach what its rows of the interval before said
 
     def add(self, interval: Interval) -> None:
@@ -99,35 +102,48 @@ class JunctionTables:
 
     def seen_doubts(self, interval: Interval, approach: Approach, rows: Sequence[MovementRow]) -> list[Doubt]:
         """The given doubts of an approach in an interval; of lanes that are full by the demand those whose v/c in the
-        run, the greatest of their movements, is SEEN_FULL or more; and, where any is, what its rows of the interval
-        before said, whose queues still end."""
+        run, the greatest of their movements, is SEEN_FULL or more, with that v/c; and, where any is, what its rows of
+        the interval before said, whose queues still end."""
         ratios, spilling = dict[str, float](), set[str]()
         for row in rows:
             for name in (self.mapping.lane_name(*lane) for lane in row.lanes):
                 ratios[name] = max(row.ratio, ratios.get(name, 0.0))
                 spilling |= {name} if row.spills else set()
-        known = self.doubts.around((interval.begin, interval.end), approach.junction, approach.edge)
-        held = [one for one in known if one.kind != LANE or ratios.get(one.lane, 0.0) >= SEEN_FULL]
-        self.doubts_held.update(one for one in held if one.kind == LANE)
-        found = [replace(one, spills=one.lane in spilling) if one.kind == LANE else one for one in held]
+        known = list(self.doubts.around((interval.begin, interval.end), approach.junction, approach.edge))
         full = max((row.ratio for row in rows), default=0.0) >= SEEN_FULL
         before = self.doubts_before.pop(approach.edge, []) if full else []
-        return [*found, *(replace(one, why=f"{one.why} in the interval before", end=interval.end) for one in before)]
+        return [
+            *(doubt for doubt in known if doubt.kind != LANE),
+            *self.lanes_seen_full((doubt for doubt in known if doubt.kind == LANE), ratios, spilling),
+            *(replace(doubt, why=f"{doubt.why} in the interval before", end=interval.end) for doubt in before),
+        ]
+
+    def lanes_seen_full(
+        self, known: Iterable[Doubt], ratios: Mapping[str, float], spilling: Collection[str]
+    ) -> Iterator[Doubt]:
+        """Of known doubts of lanes those whose v/c is SEEN_FULL or more, with it, which are noted. ratios: v/c by lane;
+        spilling: lanes whose queue stands before the lanes beside."""
+        for lane_doubt in known:
+            if (ratio := ratios.get(lane_doubt.lane, 0.0)) >= SEEN_FULL:
+                self.doubts_held[lane_doubt] = max(ratio, self.doubts_held.get(lane_doubt, 0.0))
+                spills = lane_doubt.lane in spilling and ratio >= NEARLY_FULL
+                yield replace(as_seen(lane_doubt, ratio), spills=spills)
 
     def own_doubts(
         self, interval: Interval, approach: Approach, rows: Iterable[MovementRow], fills_it: bool
     ) -> list[Doubt]:
         """What the rows of an approach say against themselves, which is noted: movements whose v/c is NEARLY_FULL or
-        more, and a queue that fills the approach (fills_it) and goes on in edges that no table has."""
+        more, NEARLY_FULL_WAITING where some on their lanes wait for gaps, and a queue that fills the approach
+        (fills_it) and goes on in edges that no table has."""
         at = approach.junction, approach.edge
         usual = Doubt(MOVEMENT, *at, "", ALL, begin=interval.begin, end=interval.end)
         doubts = [
             replace(
                 usual, target=row.target, why=f"v/c {row.ratio:.2f}", size=round(row.ratio, 2),
-                vehicles=row.lost.vehicles, spills=row.spills,
+                vehicles=row.lost.vehicles, spills=row.spills and row.ratio >= NEARLY_FULL,
             )
             for row in rows
-            if row.ratio >= NEARLY_FULL
+            if row.ratio >= (NEARLY_FULL if self.giving.isdisjoint(row.lanes) else NEARLY_FULL_WAITING)
         ]
         if fills_it and approach.edge in self.cut:
             why = "its queue goes on in the edges before, which no table has"
@@ -184,15 +200,20 @@ class JunctionTables:
                     rows.clear()
 
 
+def as_seen(doubt: Doubt, ratio: float) -> Doubt:
+    """The doubt of a lane that is full by the demand, with the v/c of the run in place of the import's estimate."""
+    return replace(doubt, why=f"v/c {ratio:.2f}", size=round(ratio, 2))
+
+
 def spread_doubt(parts: Iterable[tuple[Losses, str]]) -> str:
-    """The doubt of what some parts make up together, by what their vehicles lost and the doubts of each: theirs, where
-    those that are doubted lost SPREAD of all that is lost, else none."""
+    """The doubt of what some parts make up together, by what their vehicles lost and the doubts of each: that of the
+    part that lost most, where those that are doubted lost SPREAD of all that is lost, else none."""
     parts = list(parts)
     lost = [part.vehicles * part.delay for part, _ in parts]
     doubted = sum(seconds for seconds, (_, doubt) in zip(lost, parts, strict=True) if doubt)
     if doubted < SPREAD * sum(lost) or not doubted:
         return ""
-    return "; ".join(dict.fromkeys(text for _, doubt in parts for text in doubt.split("; ") if text))
+    return max(zip(lost, (doubt for _, doubt in parts), strict=True), key=lambda one: (bool(one[1]), one[0]))[1]
 
 
 def spill_columns(interval: Interval, approach: Approach, lanes: Sequence[Place]) -> tuple[str, str]:

@@ -17,7 +17,7 @@ from streetsim.model.names import Names
 from streetsim.observe.crossings import Crossed
 from streetsim.observe.junction_facing import junctions_with_facing_streets
 from streetsim.observe.junction_layout import approaches_cut_short
-from streetsim.observe.junction_rows import JunctionTables
+from streetsim.observe.junction_rows import JunctionTables, as_seen
 from streetsim.observe.lane_utilisation import UtilisationCalculator
 from streetsim.observe.passages import Passages
 from streetsim.observe.shown import ShownPlans
@@ -79,7 +79,7 @@ class Junctions(Passages):
         crossed = Crossed(self, kernel.plans, self.interval, dwells(stops))
         calculator = UtilisationCalculator(self, self.shown_plans, crossed, run.load.command["dawdle"])
         cut_short = approaches_cut_short(mapping, self.approaches)
-        tables = JunctionTables(self.approaches, mapping, doubts, cut_short)
+        tables = JunctionTables(self.approaches, mapping, doubts, cut_short, calculator.giving)
         shown = map(pickle.loads, map(zlib.decompress, self.packed_intervals))
         intervals = itertools.starmap(calculator.interval_measures, enumerate(shown))
         tables.write(folder, Names(mapping), intervals)
@@ -88,7 +88,8 @@ class Junctions(Passages):
             where = "where minor streets wait for each other"
             messages.append(f"junctions: delays are too small {where}: {first_few(facing)}")
         beyond, texts = queues_beyond_messages(sorted(tables.filled.intersection(cut_short)))
-        held = [one for one in doubts if one.kind != LANE or one in tables.doubts_held]
+        held = [one for one in doubts if one.kind != LANE]
+        held += [as_seen(one, ratio) for one, ratio in tables.doubts_held.items()]
         return messages + beyond, texts, [*held, *joined(tables.doubts_found)]
 
 

@@ -20,10 +20,14 @@ FIXED = {"OGR_CURRENT_DATE": "2000-01-01T00:00:00.000Z"}  # so that equal runs g
 
 
 def export_told(path: str, runs: Runs, feature_list: Sequence[Json]) -> str:
-    """What was written to a path, and what is missing or, by the first doubt of its runs, not to be trusted in it, in
-    one line; feature_list: the features."""
+    """What was written to a path, as told_of_runs tells it; feature_list: the features."""
     count = len({one["properties"]["begin"] for one in feature_list})
     text = f"{path}: {len(feature_list):,} rows of edges and junctions in {count} interval{'s' if count > 1 else ''}"
+    return told_of_runs(text, runs)
+
+
+def told_of_runs(text: str, runs: Runs) -> str:
+    """What was written, in a line, with what is missing or, by the first doubt of its runs, not to be trusted in it."""
     doubts = [doubt for folder in runs.folders.values() for doubt in folder.doubts]
     more = [] if runs.rows else ["no junctions, delays, letters, v/c and queues, as the run had no --junctions"]
     more += [f"not to be trusted: {doubts[0]}"] if doubts else []

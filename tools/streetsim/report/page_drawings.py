@@ -1,6 +1,7 @@
 """Draws the pictures of a page as SVG: maps by level of service or by differences, and queues beside their room."""
 from collections.abc import Collection, Mapping, Sequence
 from html import escape
+from typing import NamedTuple
 
 from streetsim.base.colours import DECREASE, INCREASE, STREET
 from streetsim.model.mapping import Map, Shape
@@ -96,25 +97,40 @@ def anchor(name: str) -> str:
     return "junction-" + "".join(sign if sign.isalnum() else f"-{ord(sign):x}-" for sign in name)
 
 
-def queue_picture(rows: Sequence[tuple[str, float, float, float, float]]) -> str:
-    """A bar (SVG) for each approach: the room of the edge, the 95 % queue in it, the 50 % queue, and a line at the
-    greatest. rows: (name, 50 %, 95 %, greatest, room), in metres."""
-    most = max((max(greatest, room) for _, _, _, greatest, room in rows), default=0.0) or 1.0
-    bars_left = max(150.0, *(text_width(row[0]) for row in rows), 0.0)  # of the bars; names stand before them
-    scale, svg_parts = (630 - bars_left) / most, []
-    for place, (name, half, usual, greatest, room) in enumerate(rows):
-        y = 8 + 26 * place
-        title = f"{name}: 50 % {half:.0f} m, 95 % {usual:.0f} m, greatest {greatest:.0f} m of {room:.0f} m"
-        note = ", fills the edge" if greatest > 0 and fills(greatest, room) else ""
-        svg_parts.append(
-            f'<g><title>{escape(title)}</title>'
-            f'<text x="{bars_left:g}" y="{y + 13}" text-anchor="end">{escape(name)}</text>'
-            f'<g transform="translate({bars_left + 6:g} {y})">'
-            f'<rect width="{room * scale:.1f}" height="18" fill="#fff" stroke="#666"/>'
-            f'<rect y="3" width="{usual * scale:.1f}" height="12" fill="#9ecae1"/>'
-            f'<rect y="3" width="{half * scale:.1f}" height="12" fill="#3182bd"/>'
-            f'<line x1="{greatest * scale:.1f}" x2="{greatest * scale:.1f}" y2="18" class="greatest"/></g>'
-            f'<text x="646" y="{y + 13}">{half:.0f}, {usual:.0f}, {greatest:.0f} of {room:.0f} m{note}</text></g>'
-        )
-    shape = f'viewBox="0 0 {WIDE} {12 + 26 * len(rows)}" role="img" aria-label="Queues"'
+class QueueBar(NamedTuple):
+    """The queues of a lane, in metres, and the room for them."""
+
+    name: str
+    half: float  # what half of the cycles do not exceed
+    usual: float  # what 95 % of them do not exceed
+    greatest: float
+    room: float
+    spills: str = ""  # how often it is full or blocked, in words
+
+
+def queue_picture(bars: Sequence[QueueBar]) -> str:
+    """A bar (SVG) for each lane: its room, the 95 % queue in it, the 50 % queue, and a line at the greatest."""
+    most = max((max(one.greatest, one.room) for one in bars), default=0.0) or 1.0
+    bars_left = max(150.0, *(text_width(one.name) for one in bars), 0.0)  # of the bars; names stand before them
+    scale = (500 - bars_left) / most
+    svg_parts = [queue_bar_drawn(one, bars_left, 8 + 26 * place, scale) for place, one in enumerate(bars)]
+    shape = f'viewBox="0 0 {WIDE} {12 + 26 * len(bars)}" role="img" aria-label="Queues"'
     return f'<svg class="queues" {shape}>{"".join(svg_parts)}</svg>'
+
+
+def queue_bar_drawn(bar: QueueBar, x: float, y: float, scale: float) -> str:
+    """A bar as SVG, from x pixels on, so many pixels (scale) a metre; its name stands before it."""
+    metres = f"{bar.half:.0f}, {bar.usual:.0f}, {bar.greatest:.0f} of {bar.room:.0f} m"
+    title = f"{bar.name}: 50 % {bar.half:.0f} m, 95 % {bar.usual:.0f} m, "
+    title += f"greatest {bar.greatest:.0f} m of {bar.room:.0f} m"
+    spills = bar.spills or ("filled once" if bar.greatest > 0 and fills(bar.greatest, bar.room) else "")
+    return (
+        f'<g><title>{escape(title)}</title>'
+        f'<text x="{x:g}" y="{y + 13:g}" text-anchor="end">{escape(bar.name)}</text>'
+        f'<g transform="translate({x + 6:g} {y:g})">'
+        f'<rect width="{bar.room * scale:.1f}" height="18" fill="#fff" stroke="#666"/>'
+        f'<rect y="3" width="{bar.usual * scale:.1f}" height="12" fill="#9ecae1"/>'
+        f'<rect y="3" width="{bar.half * scale:.1f}" height="12" fill="#3182bd"/>'
+        f'<line x1="{bar.greatest * scale:.1f}" x2="{bar.greatest * scale:.1f}" y2="18" class="greatest"/></g>'
+        f'<text x="516" y="{y + 13:g}">{metres}{f", {spills}" if spills else ""}</text></g>'
+    )

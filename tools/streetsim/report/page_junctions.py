@@ -1,22 +1,22 @@
 """The appendix of junctions: a line for each, movements that change, and some with all their movements and queues."""
-from collections.abc import Sequence
+from collections.abc import Iterator, Sequence
 from html import escape
-from operator import itemgetter
 
 from streetsim.base.words import time_of_day
 from streetsim.model.names import Names
 from streetsim.report.page_arms import junction_picture
 from streetsim.report.page_choice import NOTICED_SECONDS, RowChange
-from streetsim.report.page_drawings import anchor, letter_mark, queue_picture
+from streetsim.report.page_drawings import QueueBar, anchor, letter_mark, queue_picture
 from streetsim.report.page_markup import change_told, table
 from streetsim.report.page_words import how_sure, interval_name
 from streetsim.report.run_tables import ResultRow, Runs
 
 KEY = (
-    "Pictures (on paper of the first): lanes with the movements that they lead to; bands as wide as flows, of the "
-    "colour of their letter; blue, and queue: the 95 % queue as a share of the room. L, T, R, U: left, straight on, "
-    "right, back. Queues: what half of the cycles and what 95 % of them do not exceed, and the greatest, of the room. "
-    "Bars: the length of an edge, and in it the same queues, dark, light and a line."
+    "Pictures: lanes with the movements that they lead to; bands as wide as flows, of the colour of their letter; "
+    "blue, and queue: the 95 % queue as a share of the room. L, T, R, U: left, straight on, right, back. Queues: what "
+    "half of the cycles and what 95 % of them do not exceed, and the greatest, of the room. Bars, for the lanes of "
+    "each movement: how far back these go, a pocket as far as it goes, and in it the same queues, dark, light and a "
+    "line."
 )
 MOST_MOVEMENTS = 25  # of changes on the page
 
@@ -103,23 +103,38 @@ def detail(runs: Runs, name: str, interval: tuple[int, int]) -> str:
     in which it must have a row, by_time and full_lanes."""
     junction, called = runs.rows["junctions", *interval][name,], runs.names
     movements = [row for row in runs.rows["movements", *interval].values() if row.key[0] == name]
-    approaches = [row for row in runs.rows["approaches", *interval].values() if row.key[0] == name]
     head = ["movement", "from and to edge", "", "vehicles/h", "delay, s", "level of service", "v/c", "stopped, s"]
     head += ["stops", "queues, m"]
     rows = [movement_row(row, called) for row in sorted(movements, key=lambda row: row.key)]
-    queues = []
-    for row in sorted(approaches, key=lambda row: row.key):
-        half, usual, greatest, room = itemgetter("queue_50_m", "queue_95_m", "queue_max_m", "storage_m")(row.means)
-        queues.append((called.approach(row.key[1]), half, usual, greatest, room))
     values = junction.means
     return (
         f'<section class="whole"><h3 id="{anchor(name)}">{escape(title_of(name, called))}: {junction.delay:.1f} s '
         f'{letter_mark(junction.letter())}, {values["vehicles_per_hour"]:,.0f} vehicles an hour, '
         f'{escape(junction.control)}</h3>{by_time(runs, name)}'
         f'{doubted_places(runs, name)}'
-        f'{table(head, rows, names=3)}<div class="picture pair">{junction_picture(runs, name, interval)}'
-        f'{queue_picture(queues)}</div></section>'
+        f'{table(head, rows, names=3)}<div class="picture">{junction_picture(runs, name, interval)}</div>'
+        f'<div class="wide">{queue_picture(list(lane_bars(movements, called)))}</div></section>'
     )
+
+
+def lane_bars(movements: Sequence[ResultRow], names: Names) -> Iterator[QueueBar]:
+    """The bars of the lanes of a junction, those of movements with the same queues as one; movements: its rows."""
+    sharing: dict[tuple[str, tuple[float, float, float, float]], list[ResultRow]] = {}
+    for row in sorted(movements, key=lambda one: (one.key[1], "ULTR".index(one.movement))):
+        queues = row.means["queue_50_m"], row.means["queue_95_m"], row.means["queue_max_m"], row.means["storage_m"]
+        sharing.setdefault((row.key[1], queues), []).append(row)
+    for (edge, queues), rows in sharing.items():
+        name = f"{' '.join(row.movement for row in rows)} {names.approach(edge)}"
+        yield QueueBar(name, *queues, spills=spills_told(rows))
+
+
+def spills_told(rows: Sequence[ResultRow]) -> str:
+    """In how many of the cycles the lanes of some movements are full, and their begin is blocked; empty where in
+    none."""
+    columns = {"full in": "full_percent", "blocked in": "blocked_percent"}
+    percents = {text: max(row.means.get(column, 0.0) for row in rows) for text, column in columns.items()}
+    told = ", ".join(f"{text} {percent:.0f} %" for text, percent in percents.items() if percent >= 1)
+    return f"{told} of cycles" if told else ""
 
 
 def by_time(runs: Runs, name: str) -> str:

@@ -17,7 +17,7 @@ class PageWishes:
 
     title: str
     question: str = ""
-    detailed: int = 8  # junctions that are told with all their movements
+    detailed: int = 6  # junctions that are told with all their movements
     is_short: bool = False  # the first page alone
     doubts: Sequence[str] = ()  # what speaks against the runs, beside what they say
     pictures: Sequence[Section] = field(default_factory=list)  # further sections of the appendix

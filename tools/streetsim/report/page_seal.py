@@ -21,7 +21,8 @@ from streetsim.report.page_markup import facts
 LARGEST = 5_000_000  # bytes of a packed file in the page; larger ones are in the file beside it
 MOST_BYTES = 1 << 28  # bytes to which all sealed files unpack
 BESIDE_SUFFIX = ".sealed.zip"  # after the page's name
-FORM = 2  # of the seal; that of streetsim 1.0.0 says nothing of it
+FORM = 3  # of the seal; that of streetsim 1.0.0 says nothing of it
+EARLIER = {2: "the tools up to commit da17d40c, in which who gives way at lights had fixed seconds"}  # forms: of whom
 SUM = re.compile("[0-9a-f]{64}")
 # What a seal says, by name with its type; and of each of "plans".
 CONTENT = {"form": int, "words": list, "plans": list, "tools": str, "files": dict, "beside": list}
@@ -125,7 +126,7 @@ def write_beside(page: str, large: Mapping[str, bytes]) -> None:
 
 def seal_of(page: str, text: str) -> Seal:
     """The seal in a page's text; page: its path, for faults and the name of the file beside it. Fault where it has
-    none, one of the form of streetsim 1.0.0, or one that cannot be read or names what no page does."""
+    none, one of an earlier form, or one that cannot be read or names what no page does."""
     begin = text.find(BEGIN) + len(BEGIN)
     end = text.find(END, begin)
     if begin < len(BEGIN) or end < 0:
@@ -135,6 +136,8 @@ def seal_of(page: str, text: str) -> Seal:
         content = json.loads(text[begin:end])
         if "form" not in content and "drawn_by" in content:
             raise Fault(f"{page}: sealed in the form of streetsim 1.0.0: that version checks it")
+        if (form := content.get("form")) in EARLIER:
+            raise Fault(f"{page}: sealed in form {form}, by {EARLIER[form]}: those check it")
         check_content(content)
     except (ValueError, KeyError, TypeError, AttributeError, RecursionError) as fault:
         raise Fault(f"{page}: what is sealed in it cannot be read ({fault}): the page was changed") from None

@@ -1,12 +1,13 @@
 """The first page of a report: what was asked, a map, the verdict, what it costs whom, what is doubted. Fault where a
 table of the runs cannot be read."""
+from collections import defaultdict
 from collections.abc import Mapping, Sequence
 from html import escape
 from statistics import fmean
 
 from streetsim.base.report import HEAVY
 from streetsim.base.words import time_of_day
-from streetsim.model.doubts import places_told
+from streetsim.model.doubts import Doubt, Place, place_of, places_told, worst_first
 from streetsim.model.loaded_lanes import forecast_doubts, loaded_lanes
 from streetsim.model.replications import told_of_days
 from streetsim.model.service import AT_PRIORITY, AT_SIGNALS, COLOURS
@@ -16,9 +17,9 @@ from streetsim.report.page_choice import NOTICED_SECONDS, RowChange, changes_tha
 from streetsim.report.page_drawings import letter_mark, service_keys, service_map
 from streetsim.report.page_map import map_figure
 from streetsim.report.page_markup import bullets, change_told, mean_told, table
+from streetsim.report.page_state import state_verdict
 from streetsim.report.page_verdict import (
     Interval, LEAST_HOURLY, are_drawn, change_verdict, doubts_of, is_doubted, kind_of_change, ranked_rows,
-    state_verdict,
 )
 from streetsim.report.page_words import counted_noun, how_sure
 from streetsim.report.plan_costs import NOTICED, Means, PlanCosts, costs_of, means_by_class
@@ -29,7 +30,7 @@ MOST_GROUPS = 6  # flows in the table of trips
 LONG = 160  # letters of a warning on the first page
 BUS = "bus"  # SUMO's class, which is told first
 CALLED = {BUS: "buses", "passenger": "cars"}  # others have SUMO's name
-MOST_PLACES = 8  # doubted, of each plan on the first page
+MOST_PLACES = 8  # doubted, on the first page
 
 
 def common_seeds(plans: Sequence[Runs]) -> int:
@@ -74,9 +75,34 @@ def verdict(plans: Sequence[Runs], interval: Interval) -> str:
 
 
 def doubted_line(plans: Sequence[Runs]) -> str:
-    """The worst doubted places of each plan, as HTML; empty where there are none."""
-    told = [f"{runs.name}: {places_told(runs.places, runs.first_folder.mapping)}." for runs in plans if runs.places]
-    return "".join(f'<p class="doubt">{escape(text)}</p>' for text in told)
+    """The worst doubted places of all plans, as HTML; empty where there are none."""
+    told = places_told([place for runs in plans for place in runs.places], plans[-1].first_folder.mapping)
+    return f'<p class="doubt">{escape(told[0].upper() + told[1:])}.</p>' if told else ""
+
+
+def places_table(plans: Sequence[Runs]) -> str:
+    """A table, as HTML, of the doubted places, the worst MOST_PLACES of all plans, of each place the worst; empty where
+    there are none."""
+    names, with_plans = plans[-1].names, defaultdict[Place, list[str]](list)
+    for runs in plans:
+        for one in worst_first(runs.places):
+            with_plans[place_of(one)].append(runs.name)
+    places = worst_first(place for runs in plans for place in runs.places)
+    rows = [
+        [escape(one.place_told(names)), escape(" and ".join(with_plans[place_of(one)])), escape(why(one)), one.touches]
+        for one in places[:MOST_PLACES]
+    ]
+    left = len(places) - MOST_PLACES
+    told = f'<p class="small">{counted_noun(max(0, left), "further place")}: column doubt of the tables.</p>'
+    more = told if left > 0 else ""
+    return table(["doubted", "with", "why", "what it touches"], rows, names=4) + more if rows else ""
+
+
+def why(doubt: Doubt) -> str:
+    """Why a place is doubted, a councillor's words first."""
+    if not doubt.size:
+        return doubt.why
+    return f"{'more wish to pass than can' if doubt.size > 1 else 'nearly as many wish to pass as can'} ({doubt.why})"
 
 
 def service_and_works_map(runs: Runs, interval: Interval, rows: Sequence[RowChange] = (), detailed: int = 0) -> str:
@@ -225,15 +251,12 @@ def doubt_told(one: RowChange) -> str:
 
 
 def doubted(plans: Sequence[Runs], further_doubts: Sequence[str] = ()) -> str:
-    """What is doubted, as an HTML list; further_doubts: what else speaks against the runs, each as plain text."""
+    """What is doubted, as an HTML table of places and a list; further_doubts: what else speaks against the runs, each
+    as plain text."""
     texts = []
     for runs in plans:
-        doubts, places, names = doubts_of(runs), runs.places, runs.names
+        doubts, places = doubts_of(runs), runs.places
         texts += [f"{runs.name} is not to be trusted: {doubt}" for doubt in doubts]
-        texts += [f"{runs.name}: doubted at {one.in_words(names)}." for one in places[:MOST_PLACES]]
-        if len(places) > MOST_PLACES:
-            left = counted_noun(len(places) - MOST_PLACES, "further place")
-            texts.append(f"{runs.name}: {left}: column doubt of its tables of junctions.")
         if not doubts and not places:
             texts.append(f"{runs.name}: nothing that a run checks of itself speaks against it.")
     texts += [*further_doubts, *growth_doubts(plans)]
@@ -249,7 +272,7 @@ def doubted(plans: Sequence[Runs], further_doubts: Sequence[str] = ()) -> str:
         told = f"The import told {counted_noun(len(heavy), 'thing')} that may change results"
         texts.append(f"{told} (appendix){'; the first' if len(heavy) > 1 else ''}: {first}.")
     texts.append("These are numbers of a simulation: the street may do otherwise, and nobody here changes the way.")
-    return bullets(texts) + (errors_told() if len(plans) == 2 else "")
+    return places_table(plans) + bullets(texts) + (errors_told() if len(plans) == 2 else "")
 
 
 def growth_doubts(plans: Sequence[Runs]) -> list[str]:

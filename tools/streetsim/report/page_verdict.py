@@ -8,8 +8,7 @@ from streetsim.report import page_works
 from streetsim.report.forecast_errors import GROWTH, LANE, SPLIT, WAVE, ForecastError
 from streetsim.report.light_timings import timings_of
 from streetsim.report.page_choice import RowChange, changes_that_stand_out, ranked_changes
-from streetsim.report.page_markup import mean_told
-from streetsim.report.page_words import change_in_words, count_in_words, counted_noun, how_sure, interval_name
+from streetsim.report.page_words import change_in_words, count_in_words, counted_noun, how_sure
 from streetsim.report.plan_differences import UNDECIDED, PlanDifference, difference_of, mean_delays
 from streetsim.report.run_tables import Runs
 
@@ -56,11 +55,11 @@ def change_verdict(plans: Sequence[Runs], interval: Interval) -> str:
     worst = worst_interval(plans)
     delay = delay_change(plans, worst)
     texts = [answer(plans, trip, delay, worst)]
+    if kind_of_change(*plans) is LANE:
+        texts = [f"{texts[0].removesuffix('.')}: {'; '.join(works_told(plans, trip))}."]
     if trip:
         means = f"{trip.mean_after:.1f} s in place of {trip.mean_before:.1f} s"
         texts.append(f"With '{plans[1].name}' a trip takes {means} on average: {change_in_words(trip)}.")
-    if kind_of_change(*plans) is LANE:
-        texts += works_told(plans, trip)
     if delay:
         means = f"{delay.mean_after:.1f} s in place of {delay.mean_before:.1f} s{quarter_told(plans, worst)}"
         texts.append(f"A vehicle's mean delay at a junction is {means}: {change_in_words(delay)}.")
@@ -121,14 +120,19 @@ def quarter_told(plans: Sequence[Runs], interval: Interval) -> str:
     return f" in the worst time, {time_of_day(interval[0])} to {time_of_day(interval[1])}"
 
 
-def worst_movement(plans: Sequence[Runs], interval: Interval) -> Iterator[str]:
-    """A sentence on the movement that waits longest in an interval with the last plan, of those with LEAST_HOURLY or
-    more, and how it changes; nothing where there is none."""
+def slowest(plans: Sequence[Runs], interval: Interval) -> RowChange | None:
+    """The movement that waits longest in an interval with the last plan, of those with LEAST_HOURLY or more; None where
+    there is none."""
     movements = ranked_rows(plans, interval, "movements")
     rows = [one for one in movements if one.row.means["vehicles_per_hour"] >= LEAST_HOURLY]
-    if not rows:
+    return max(rows, key=lambda one: one.row.delay) if rows else None
+
+
+def worst_movement(plans: Sequence[Runs], interval: Interval) -> Iterator[str]:
+    """A sentence on the slowest movement of an interval, and how it changes; nothing where there is none."""
+    names = plans[-1].names
+    if (worst := slowest(plans, interval)) is None:
         return
-    worst, names = max(rows, key=lambda one: one.row.delay), plans[-1].names
     called = f"{names.movement(*worst.key[1:])} at {names.junction_told(worst.key[0])}"
     change = f", {change_in_words(worst.change)}" if worst.change else ""
     doubt = f"; this is doubted: {worst.row.doubt}" if worst.row.doubt else ""
@@ -157,45 +161,11 @@ def is_doubted(one: RowChange) -> bool:
 
 
 def works_told(plans: Sequence[Runs], trip: PlanDifference | None) -> Iterator[str]:
-    """Sentences on works: the vehicle-hours that all trips take more, who passes each place, its longest queue and when
-    that is, and its worst period."""
+    """Parts of a sentence on works: the vehicle-hours that all trips take more, who passes each place, its longest
+    queue and when that is, and its worst period."""
     if trip:
         hours = trip.change * plans[1].vehicles / 3600
         half = "" if trip.half is None else f" ± {trip.half * plans[1].vehicles / 3600:,.0f}"
-        yield f"All trips together take {abs(hours):,.0f}{half} vehicle-hours {'less' if hours < 0 else 'more'}."
+        yield f"all trips together take {abs(hours):,.0f}{half} vehicle-hours {'less' if hours < 0 else 'more'}"
     for works in page_works.seen_in(plans[1]):
         yield page_works.worst_told(plans[1], works)
-
-
-def state_verdict(runs: Runs, interval: Interval) -> str:
-    """How long trips and delays are with one plan, in all and in the worst interval, how many junctions are worse than
-    D, which are doubted, and the worst movement, as plain text."""
-    worst = worst_interval([runs])
-    delays = mean_delays(runs.rows["junctions", *worst].values())
-    summary = f"A trip takes {mean_told(runs.mean_trips().values())} s on average, and a vehicle's delay at a junction "
-    summary += f"is {mean_told(delays.values())} s{quarter_told([runs], worst)}"
-    summary += f" (±: {interval_name(runs.is_drawn)})." if len(runs.folders) > 1 else "."
-    return " ".join([summary, levels_of(runs, interval), *worst_movement([runs], worst)])
-
-
-def levels_of(runs: Runs, interval: Interval) -> str:
-    """A sentence on the levels of service of junctions in an interval; those that are doubted are not called sure."""
-    rows = ranked_rows([runs], interval)
-    sure = [junction for junction in rows if not junction.row.doubt]
-    doubted_count = len(rows) - len(sure)
-    of_rows = counted_noun(len(rows), "junction")
-    doubt = f" Levels of service of {count_in_words(doubted_count)} of {of_rows} are doubted."
-    doubt = doubt if doubted_count else ""
-    if not sure:
-        return doubt.strip()
-    bad = sum(junction.is_bad for junction in sure)
-    worst = max(sure, key=lambda junction: (junction.row.letter(), junction.row.delay))
-    letter, name = worst.row.letter(), runs.names.junction_told(worst.key[0])
-    if len(rows) == 1:
-        return f"{name} has level of service {letter}."
-    other = " other" if doubted_count else ""
-    if not bad:
-        return f"Every{other} junction has level of service {letter} or better; the worst is {name}.{doubt}"
-    have = f"{'has' if bad == 1 else 'have'} a level of service worse than D; the worst is {letter}, at {name}"
-    of_all = counted_noun(len(sure), f"{other} junction".strip())
-    return f"{count_in_words(bad).capitalize()} of {of_all} {have}.{doubt}"

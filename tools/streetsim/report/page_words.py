@@ -55,6 +55,6 @@ def intervals_in_words(difference: PlanDifference) -> str:
 def change_in_words(difference: PlanDifference) -> str:
     """How great a change in seconds is and how sure, or that it is not shown to differ."""
     if difference.half is None:
-        return f"{less_or_more(difference.change)} (of one run, which says nothing of chance)"
+        return f"{less_or_more(difference.change)} (of one run)"
     change = less_or_more(difference.change) if difference.stands_out() else "not shown to differ"
     return f"{change} ({intervals_in_words(difference)})"

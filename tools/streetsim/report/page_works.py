@@ -25,6 +25,7 @@ MOST_EDGES = 6  # edges told that win, and that lose
 # Of works.csv, what stands on the page.
 CAPACITY = "capacity_per_hour"
 MEANS = ("vehicles", CAPACITY, "mean_delay_s", "queue_50_m", "queue_95_m")
+OTHER_HOURS = "Other hours beside each other: streetsim-study with --close-at."
 GREATEST = ("greatest_delay_s", "queue_max_m", "longest_stand_s")
 PlaceKey = tuple[str, str, str, str]  # edge, lane, from and to in metres, as works.csv has them
 
@@ -125,15 +126,15 @@ def place_told(runs: Runs, works: SeenWorks) -> str:
         + [most_of(own, name) for name in GREATEST]
         for (start, stop), own in sorted(works.rows.items())
     ]
-    picture = f'<div class="picture">{queues_picture(works)}</div>' if works.queues else ""
+    picture = f'<div class="wide">{queues_picture(works)}</div>' if works.queues else ""
     unseen = any(not row[CAPACITY] for own in works.rows.values() for row in own)
     none = " Capacity -: no queue stood for a quarter of an hour, so none was seen." if unseen else ""
-    total = f'<p class="small">{works.lost_told(len(runs.folders))}{none}</p>'
+    total = f'<p class="small">{works.lost_told(len(runs.folders))}{none} {OTHER_HOURS}</p>'
     return f'<section class="whole"><h3>{escape(title)}</h3>{table(head, rows)}{total}{picture}</section>'
 
 
 def worst_told(runs: Runs, works: SeenWorks) -> str:
-    """Who passes works, their longest queue and when it is, and the worst period, as a sentence."""
+    """Who passes works, their longest queue and when it is, and the worst period, as a part of a sentence."""
     def delay(own: Sequence[dict[str, str]]) -> float:
         """The mean delay of a period over the seeds."""
         return float(mean_of(own, "mean_delay_s") or 0)
@@ -147,7 +148,7 @@ def worst_told(runs: Runs, works: SeenWorks) -> str:
     return (
         f"{passed:,.0f} vehicles pass the works {place}; the longest queue is {metres} m, from "
         f"{time_of_day(begin)} to {time_of_day(end)}; in the worst time, {time_of_day(first)} to {time_of_day(last)}, "
-        f"one who passes waits {delay(worst):.0f} s. {works.lost_told(len(runs.folders))}"
+        f"one who passes waits {delay(worst):.0f} s"
     )
 
 

@@ -73,7 +73,7 @@ def program(name: str, timing: Timing, names: Names) -> str:
     told = f"{name}: cycle {cycle} s, offset {timing.offset:g} s, {len(timing.phases)} phases{kind}"
     faults = [clash_told(one, other, seconds, names) for one, other, seconds in timing.clashes()]
     marks = "".join(f'<p class="doubt">Fault: {escape(fault)}.</p>' for fault in faults)
-    return f'<h4>{escape(told)}</h4>{marks}<div class="picture">{bars(timing, names)}</div>'
+    return f'<h4>{escape(told)}</h4>{marks}<div class="wide">{bars(timing, names)}</div>'
 
 
 def clash_told(movement: SignalMovement, other_movement: SignalMovement, seconds: int, names: Names) -> str:

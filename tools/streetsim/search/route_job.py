@@ -22,7 +22,6 @@ from streetsim.search.route_team import Team
 from streetsim.search.route_watching import RunGround
 from streetsim.sumo.trips import Trips, write_routes
 
-LONGEST_TRIP = 7200  # seconds that a run may last after the last departure
 
 @dataclass(frozen=True, slots=True)
 class RouteWorks(Shutting):

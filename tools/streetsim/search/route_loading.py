@@ -101,9 +101,12 @@ class RouteTown:
 
 def read_town(net_path: str, additional: Sequence[str], options: Options, report: Report) -> RouteTown:
     """The town of a network's file, with what additional files add to it and to the vehicle types. Fault where one
-    cannot be read, and where the options cut edges in parts (--slow). report: gets what is to be told of the files."""
+    cannot be read, and where the options cut edges in parts (--slow) or take a part of the network. report: gets what
+    is to be told of the files."""
     if options.slow:
         raise Fault("ways are searched on whole edges: import the run without --slow")
+    if options.part:
+        raise Fault("ways are searched on whole networks: import the run without --part")
     net, types = read_net(net_path, options.classes, report), Types(options.seed, report)
     for path in additional:
         read_additional(path, net, types, report)

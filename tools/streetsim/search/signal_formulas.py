@@ -209,7 +209,7 @@ def proposals(
 ) -> Iterator[tuple[str, Plan]]:
     """Plans by formula, (name, plan): each cycle of cycles in seconds, and the given one, with the given splits and
     with splits by flow, with the given offsets and with a wave. Splits and offsets are changed only where changed, of
-    planning.CHANGES, has them. cycles: empty where cycles may not change."""
+    usual.CHANGES, has them. cycles: empty where cycles may not change."""
     for cycle in (None, *cycles):
         for loads in (None, streets.loads) if "splits" in changed else (None,):
             proposed = plan if cycle is None and loads is None else at_cycle(lights, plan, cycle, loads)

@@ -169,9 +169,7 @@ def tell_found(
 
 def doubted_places(town: SignalTown, plan: Plan) -> list[Doubt]:
     """The doubts of lanes that are nearly full under a plan."""
-    lines = LightLines(town.lines.net, town.run, town.mapping)
-    lines.signal_lines(plan, town.lights)
-    return [doubt_of_lane(lane) for lane in full_lanes_under(lines.net, town.run, town.mapping)]
+    return [doubt_of_lane(lane) for lane in full_lanes_under(town.net_under(plan), town.run, town.mapping)]
 
 
 def cycles_told(given_plan: Plan, search: PlanSearch) -> str:
@@ -268,7 +266,7 @@ def vehicle_doubts(
 def warnings_of(town: SignalTown, plan: Plan) -> Iterator[str]:
     """What is to be said of a found plan, a text each: where the simulator cannot show it whole, and where cycles are
     unequal, so that offsets mean nothing."""
-    lines = LightLines(town.lines.net, town.run, town.mapping)
+    lines = LightLines(town.mapping)
     lines.signal_lines(plan, town.lights)
     yield from lines.report.warnings
     if len({timing.cycle for timing in plan.values()}) > 1:

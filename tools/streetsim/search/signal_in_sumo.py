@@ -126,11 +126,14 @@ def teleports_of(path: str) -> int:
 
 
 def sumo_for(reading: Reading, mapping: Map, run: Run) -> InSumo:
-    """SUMO with the files of the import, and the further files of --plans. Fault where SUMO is not installed, where the
-    map names no files or they are not those that were imported, or where the first of --plans is another network."""
+    """SUMO with the files of the import, and the further files of --plans. Fault where SUMO is not installed, of a part
+    of a network, where the map names no files or they are not those that were imported, or where the first of --plans
+    is another network."""
     program = shutil.which("sumo")
     if program is None:
         raise Fault("--verify-sumo: SUMO is not installed here (Debian: apt install sumo)")
+    if mapping.options.get("part"):
+        raise Fault("--verify-sumo: SUMO drives the whole network, of which the run has a part (--part)")
     sources = sources_of(mapping.sources, reading.map, reading.run)
     if os.path.realpath(sources.net) != os.path.realpath(reading.plans[0]):
         raise Fault(

@@ -3,22 +3,18 @@ import json
 from collections import defaultdict
 from collections.abc import Mapping, Sequence
 from copy import copy
-from dataclasses import replace
 from typing import NamedTuple
 
 from streetsim.base.report import Report
 from streetsim.model.fullness import FullLane
 from streetsim.model.mapping import Map, MapTurn
 from streetsim.model.runs import Run
-from streetsim.model.waiting import ways_at
 from streetsim.search.run_hidden import HiddenShares, with_hidden
 from streetsim.search.signal_plans import PlannedLight, PlannedTiming
 from streetsim.sumo.additional import read_additional
-from streetsim.sumo.crossing import hourly_flows
-from streetsim.sumo.driver_words import measured_of
 from streetsim.sumo.full import full_lanes_at_lights
-from streetsim.sumo.net import LightProgram, SumoNet, connections_of, read_net
-from streetsim.sumo.signals import LitNode, movements_of_junction, signal_command
+from streetsim.sumo.net import LightProgram, SumoNet, read_net
+from streetsim.sumo.signals import lit_node_of, signal_command
 from streetsim.sumo.slowing import with_lower_limits
 from streetsim.sumo.types import Types
 
@@ -37,11 +33,8 @@ def flowing(run: Run, mapping: Map) -> list[Flowing]:
 
 
 def full_lanes_under(net: SumoNet, run: Run, mapping: Map) -> list[FullLane]:
-    """The nearly full lanes at lights under the programs of a network, for the vehicles of a run; none where all
-    permissive greens are shown by a given share, of which the import knows none either."""
-    if mapping.options["permissive"] is not None:
-        return []
-    return full_lanes_at_lights(net, flowing(run, mapping), {link.edge: link.limit for link in mapping.links})
+    """The nearly full lanes at lights under the programs of a network, for the vehicles of a run."""
+    return full_lanes_at_lights(net, flowing(run, mapping))
 
 
 def read_plans(paths: Sequence[str], mapping: Map) -> SumoNet:
@@ -56,16 +49,13 @@ def read_plans(paths: Sequence[str], mapping: Map) -> SumoNet:
 
 
 class LightLines:
-    """Makes the signal lines of plans in a network, for the vehicles of a run; phases are kept, so that a light is made
-    anew only where its greens change."""
+    """Makes the signal lines of plans in a network; phases are kept, so that a light is made anew only where its greens
+    change."""
 
-    def __init__(self, net: SumoNet, run: Run, mapping: Map) -> None:
-        """net: whose programs are replaced by those of plans, in a copy."""
-        self.net, self.mapping = replace(net, programs=dict(net.programs)), mapping
-        self.flows = hourly_flows(flowing(run, mapping))
+    def __init__(self, mapping: Map) -> None:
+        """mapping: of the run for which the lines are."""
+        self.mapping = mapping
         self.hidden: HiddenShares = {}  # of turns that give way, where lines show how long others let them wait
-        self.limits_of = {link.edge: link.limit for link in mapping.links}
-        self.connections = connections_of(net)
         self.nodes: defaultdict[str, list[int]] = defaultdict(list)
         for light, node in mapping.signals:
             self.nodes[light].append(node)
@@ -97,18 +87,8 @@ class LightLines:
         return lines
 
     def phases_json(self, name: str, node: int, timing: PlannedTiming, light: PlannedLight) -> bytes:
-        """The phases of a light at one of its nodes, as the JSON of a signal line's "phases". Puts the program into
-        self.net; self.report and Fault as of signal_lines."""
+        """The phases of a light at one of its nodes, as the JSON of a signal line's "phases"; self.report and Fault as
+        of signal_lines."""
         program = LightProgram(0.0, list(zip(timing.durations, light.states, strict=True)), "static")
-        self.net.programs[name] = program
-        junction, permissive = self.mapping.nodes[node][0], self.mapping.options["permissive"]
-        movements = {}
-        if permissive is None and self.flows:
-            connections = self.connections[junction]
-            movements = movements_of_junction(junction, connections, self.net, self.flows, self.limits_of)
-        turns = self.turns[node]
-        edges = {link: self.mapping.links[link].edge for link, *_ in turns}
-        measured = *measured_of(self.mapping), ways_at(self.mapping.lit_ways, node)
-        lit = LitNode(node, turns, edges, name, program, permissive, self.report, movements, *measured)
-        command = signal_command(lit)
+        command = signal_command(lit_node_of(self.mapping, node, self.turns[node], name, program, self.report))
         return json.dumps(with_hidden(command["phases"], self.hidden), separators=(",", ":")).encode()

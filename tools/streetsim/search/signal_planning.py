@@ -10,11 +10,8 @@ from streetsim.search.signal_formulas import StreetFlows, critical_cycle
 from streetsim.search.signal_search import PlanSearch, key_of
 from streetsim.search.signal_town import SignalTown
 
-CHANGES = ("offsets", "splits", "cycle")
-CYCLES = "60-120"  # seconds
 STEP = 10  # seconds from one cycle that is proposed to the next
 TRIED = 10  # runs of the given plan tell how many seeds a search needs
-DRAWN = 500  # seconds of the pictures
 
 
 def tried_seeds(check: Sequence[int]) -> list[int]:

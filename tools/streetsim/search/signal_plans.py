@@ -12,12 +12,12 @@ from typing import TypeVar
 from streetsim.base import limits
 from streetsim.base.files import quoteattr
 from streetsim.model.doubts import DOUBTED
+from streetsim.search.usual import LEAST_GREEN
 from streetsim.sumo.constraints import PEDESTRIANS, Constraint, constraints_of
 from streetsim.sumo.net import STATIC, LightProgram
 
 Seconds = TypeVar("Seconds", int, float)
 PROGRAM = "streetsim"  # the programID of what is written
-LEAST_GREEN = 5  # seconds of a green that may be stretched
 GREEN = "GgsOo"  # letters of a state under which somebody may go, or the light is off
 
 

@@ -135,7 +135,7 @@ def search_plan(
 ) -> None:
     """Searches from a given plan: the proposals by formula, then climb_all from the best of them. Ends there, or where
     the search has ended; search.best then has (mean trip in seconds, the best plan). changed: what may change, of
-    planning.CHANGES; cycles: those that are proposed, in seconds."""
+    usual.CHANGES; cycles: those that are proposed, in seconds."""
     search.climbs = count_climbs(lights, streets, changed)
     try:
         search.mean_trip("given", plan)

@@ -26,7 +26,7 @@ from streetsim.search.signal_lines import LightLines, read_plans
 from streetsim.search.signal_plans import Plan, PlannedLight, light_and_timing, why_kept
 from streetsim.search.signal_promises import Promises
 from streetsim.search.signal_search import Key, key_of
-from streetsim.sumo.net import STATIC, SumoNet
+from streetsim.sumo.net import STATIC, LightProgram, SumoNet
 
 EXACT, CAREFUL = 0, 1  # places of sessions: that of the report, that of the search
 
@@ -61,6 +61,15 @@ class SignalTown:
     lines: LightLines
     session: PreparedRun
     careful: PreparedRun  # of the search, whose vehicles slow down more often, so that what is found has room
+    net: SumoNet
+
+    def net_under(self, plan: Plan) -> SumoNet:
+        """The network with the programs of a plan."""
+        programs = {
+            name: LightProgram(0.0, list(zip(timing.durations, self.lights[name].states, strict=True)), STATIC)
+            for name, timing in plan.items()
+        }
+        return replace(self.net, programs={**self.net.programs, **programs})
 
     @property
     def base(self) -> Plan:
@@ -114,7 +123,7 @@ def read_town(reading: Reading) -> SignalTown:
     session = careful = giving_session(*session_args)
     if reading.reserve:
         careful = giving_session(*session_args, dawdle=min(1000, run.load.command["dawdle"] + reading.reserve))
-    town = SignalTown(run, mapping, settings, lights, plan, LightLines(net, run, mapping), session, careful)
+    town = SignalTown(run, mapping, settings, lights, plan, LightLines(mapping), session, careful, net)
     for text in (*settings.lights.notes(), *settings.buses.notes()):
         print(text, file=sys.stderr)
     warn_of_signals(reading, town)

@@ -327,5 +327,5 @@ def signals_of(
     path = plan_files.plans[-1]
     print(*(f"{path}: {text}" for text in broken), sep="\n", end="\n" if broken else "", file=sys.stderr)
     plan = {name: timing for name, (_, timing) in timed.items()}
-    lines = LightLines(net, run, mapping).signal_lines(plan, {name: light for name, (light, _) in timed.items()})
+    lines = LightLines(mapping).signal_lines(plan, {name: light for name, (light, _) in timed.items()})
     return lines, lights_not_static(net, timed), full_lanes_under(net, run, mapping), doubted_plans(net)

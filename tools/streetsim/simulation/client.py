@@ -39,6 +39,11 @@ class RunClient(Client):
                 raise fault if isinstance(fault, Exception) else NoReply(reply.decode(errors="replace"))
         return iter(replies[len(earlier_lines) :])
 
+    def exchange_one(self, line: bytes) -> bytes:
+        """As `exchange`, of one line."""
+        [reply] = self.exchange([line])
+        return reply
+
     def end(self) -> tuple[int, str]:
         """Ends the input and waits for the program; gives (its status, its standard error), later the same."""
         if self.end_result is None:

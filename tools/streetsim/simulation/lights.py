@@ -252,7 +252,7 @@ def seconds_of(phases: Phases) -> float:
 
 
 def as_sent(phases: Phases) -> Phases:
-    """The phases as they are sent: one alone with permissive greens as full greens, as no share can be shown."""
+    """The phases as they are sent: one alone with permissive greens as full greens, so that its seconds are whole."""
     return [(phases[0][0], phases[0][1].replace("g", "G"))] if len(phases) == 1 else phases
 
 

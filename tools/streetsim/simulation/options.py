@@ -28,7 +28,7 @@ SAVED = "save-configuration"  # the file to which the options are written; no ru
 LOGS = ("log", "message-log", "error-log")  # files that get what the import says
 IMPORTED = {
     "seed", "begin", "classes", "joint", "turns", "sizes", "dawdle", "change", "zone", "residence", "buffer",
-    "permissive", "speed-factor", "cut", "drivers",
+    "permissive", "speed-factor", "cut", "drivers", "part",
 }
 # What would change the demand or the run, and what to do instead.
 REFUSED = {

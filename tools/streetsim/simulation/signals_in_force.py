@@ -7,11 +7,9 @@ from streetsim.kernel.loop import NEVER, Controller, Kernel, own_line
 from streetsim.kernel.seconds import Block
 from streetsim.model.mapping import Map, MapTurn
 from streetsim.model.runs import Command, Line
-from streetsim.model.waiting import ways_at
 from streetsim.sumo.crossing import GREEN
-from streetsim.sumo.driver_words import measured_of
 from streetsim.sumo.net import LightProgram
-from streetsim.sumo.signals import LitNode, TooLong, cycle_told, phase_lines, signal_command
+from streetsim.sumo.signals import LitNode, TooLong, cycle_told, lit_node_of, phase_lines, signal_command
 
 NOTHING: Command = {}
 Cycle = Sequence[tuple[float, str]]  # phases: seconds, state
@@ -82,9 +80,9 @@ class SignalsInForce(Controller):
 
     def program_lines(self, light: str, phases: Cycle, offset: float, clock: int) -> tuple[list[Line], list[str]]:
         """(lines that show a cycle of (seconds, state) at a light from a clock on; warnings); forgets what was still
-        to be sent for the light. offset: as in a tlLogic, seconds. Of permissive greens the usual share is
-        shown, as flows are not known here. Fault, before anything is forgotten, where a state is shorter than the
-        light's signals, or the cycle rounds to 0 s or is longer than 200,000 s."""
+        to be sent for the light. offset: as in a tlLogic, seconds. Fault, before anything is forgotten, where a state
+        is shorter than the light's signals, the cycle rounds to 0 s or is longer than 200,000 s, or lit_node_of raises
+        one."""
         cycle = tuple([(seconds, state) for seconds, state in phases])
         if (commands_known := self.known_commands.get((light, cycle))) is not None:
             self.forget(light)
@@ -123,12 +121,7 @@ class SignalsInForce(Controller):
     def lit_node(self, light: str, node: int, phases: Cycle, offset: float, report: Report) -> LitNode:
         """A light's program at one of its nodes, in the form of which signal lines are made; report: gets warnings."""
         turns = [(turn.link, turn.lane, turn.next, turn) for turn in self.turns_at(node)]
-        edges = {link: self.map.links[link].edge for link, *_ in turns}
-        program = LightProgram(offset, list(phases), "static")
-        cut, shares = measured_of(self.map)
-        permissive = self.map.options["permissive"]
-        ways = ways_at(self.map.lit_ways, node)
-        return LitNode(node, turns, edges, light, program, permissive, report, {}, cut, shares, ways)
+        return lit_node_of(self.map, node, turns, light, LightProgram(offset, list(phases), "static"), report)
 
     def constant_lines(self, light: str, state: str, begin: float) -> list[Line]:
         """The lines that show a state without permissive greens from the clock begin on; forgets what was to come."""

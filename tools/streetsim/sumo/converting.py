@@ -1,7 +1,7 @@
 """Makes the lines of a run and the map of its names, of a network that was read and its vehicles."""
 import json
 from collections.abc import Iterable, Sequence
-from dataclasses import asdict
+from dataclasses import asdict, fields
 
 from streetsim.base import limits
 from streetsim.base.files import Fault, Json
@@ -14,6 +14,7 @@ from streetsim.sumo.crossing import hourly_flows
 from streetsim.sumo.demand import DemandVehicle, enters, kinds_of
 from streetsim.sumo.detectors import detectors_on_cells
 from streetsim.sumo.full import fullness
+from streetsim.sumo.lane_capacity import crossings_of, weights_of_waiting
 from streetsim.sumo.lit_ways import lit_ways_of
 from streetsim.sumo.merges import merges_of
 from streetsim.sumo.net import STATIC, SumoNet, doubted_plans, lights_not_static
@@ -21,14 +22,13 @@ from streetsim.sumo.network import Network, Options
 from streetsim.sumo.paces import Paces
 from streetsim.sumo.programs import fixed_programs, kept_programs, lights_of_riders
 from streetsim.sumo.rules import warn_of_rules
-from streetsim.sumo.signals import SECONDS_AFTER, movements, signal_commands
+from streetsim.sumo.signals import SECONDS_AFTER, signal_commands
 from streetsim.sumo.slowing import with_lower_limits
 from streetsim.sumo.reserved import reserved_lanes
 from streetsim.sumo.starting import slow_starts
 from streetsim.sumo.timings import timings_of, warn_of_clashes
 from streetsim.sumo.types import Types
 from streetsim.sumo.wauts import day_lines, days_of, programs_shown
-from streetsim.sumo.yielding import equivalents
 
 # The network, its lights with their nodes, the commands of the run, the names of its vehicles.
 ConvertedRun = tuple[Network, list[tuple[str, int]], list[Command], list[str]]
@@ -41,7 +41,8 @@ def run_and_map(converted_run: ConvertedRun, report: Report) -> tuple[list[str],
     mapping = map_of(network, lights, names, report)
     mapping.detectors = detectors_on_cells(network.detectors, mapping, network.closed_lanes, report)
     mapping.warnings, mapping.warning_rows = list(report.lines()), report.rows()
-    lines = [json.dumps(command, separators=(",", ":")) for command in commands]
+    written = json.JSONEncoder(separators=(",", ":")).encode  # one for all, as `dumps` makes one for each
+    lines = [written(command) for command in commands]
     refuse_over_limits(network, lines[0], names)
     return lines, mapping
 
@@ -63,9 +64,10 @@ def converted(
     days = days_of(net, options.begin, last, report)
     paces = Paces(vehicles, types.drivings, lambda name: types.class_kept(name, options.classes))
     network = Network(net, options, report, flows, paces)
-    movements_at = movements(net, {link.edge: link.limit for link in network.links}, flows)
+    crossings = crossings_of(net) if flows else {}
     network.timings = timings
-    network.equivalents = equivalents(movement for junction in movements_at.values() for movement in junction.values())
+    movements = (movement for crossing in crossings.values() for movement in crossing.by_flows(flows).values())
+    network.choice.weights = weights_of_waiting(movements)
     entered, driven = enters(vehicles, net, network, types, report)
     network.kinds = kinds_of(driven, types)
     network.starts = slow_starts(net, driven, types.drivings)
@@ -78,19 +80,19 @@ def converted(
         warn_of_broken(net, report)
     network.lit_ways = lit_ways_of(net, network)
     ends = {light: day[1][0] - 1 for light, day in days.items() if len(day) > 1}
-    signals = signal_commands(net, network, movements_at, report, ends) + day_lines(net, network, days, flows, report)
+    signals = signal_commands(net, network, report, ends) + day_lines(net, network, days, report)
     lights = [(light, command["node"]) for light, command in signals if "at" not in command]
     network.yields = conflicts_of(net, network, flows)
     sensing = (light for light, program in programs_shown(net, days) if light in days and program.kind != STATIC)
     network.actuated = list(dict.fromkeys([*lights_not_static(net, (light for light, _ in signals)), *sensing]))
     network.switches = sorted((clock, light, program) for light, day in days.items() for clock, program in day)
     network.doubted_plans = doubted_plans(net)
-    network.programs = kept_programs(net, network, lights, flows)
-    network.fixed = fixed_programs(net, network, lights, flows, lights_of_riders(entered, driven, types, network))
+    network.programs = kept_programs(net, lights)
+    network.fixed = fixed_programs(net, lights, lights_of_riders(entered, driven, types, network))
     giving_way = {giver.node for giver in network.yields}
     merges = [merge for merge in merges_of(net, network, flows) if merge.command["node"] not in giving_way]
-    if doubted and flows and options.permissive is None:
-        network.full = fullness(net, network, vehicles, merges, movements_at)
+    if doubted and flows:
+        network.full = fullness(net, crossings, vehicles, merges, flows)
     turns = [command for _, command in signals] + [merge.command for merge in merges]
     commands = [network.load_command(), *turns, *entered]
     return network, lights, commands, [vehicle.name for vehicle in driven]
@@ -105,7 +107,8 @@ def refuse_over_limits(network: Network, load: str, names: Sequence[str]) -> Non
     if len(load) > limits.LINE:
         exceeded.append(f"a load line of {len(load):,} bytes, at most {limits.LINE:,}")
     if exceeded:
-        raise Fault(f"too large for streetsim: {'; '.join(exceeded)}. Nothing was written")
+        smaller = "streetsim-import --part EDGES|X,Y,X,Y takes a part, with those who drive through it"
+        raise Fault(f"too large for streetsim: {'; '.join(exceeded)}. Nothing was written: {smaller}")
 
 
 def map_of(network: Network, lights: list[tuple[str, int]], names: list[str], report: Report) -> Map:
@@ -127,7 +130,7 @@ def map_of(network: Network, lights: list[tuple[str, int]], names: list[str], re
         ],
         signals=lights,
         cars=names,
-        options=asdict(network.options),
+        options={name: value for name, value in asdict(network.options).items() if name != "part" or value},
         warnings=list(report.lines()),
         yields=network.yields,
         kinds=network.kinds,
@@ -149,6 +152,9 @@ def map_of(network: Network, lights: list[tuple[str, int]], names: list[str], re
 
 
 def options_again(mapping: Map, **further: Iterable[str]) -> Options:
-    """The options of the import that made a map, with further values in those that are lists: joint, led, slow."""
-    known: Json = {name: tuple(value) if isinstance(value, list) else value for name, value in mapping.options.items()}
+    """The options of the import that made a map, with further values in those that are lists: joint, led, slow; without
+    those of earlier tools that have no effect any more."""
+    names = {one.name for one in fields(Options)}
+    own = ((name, value) for name, value in mapping.options.items() if name in names)
+    known: Json = {name: tuple(value) if isinstance(value, list) else value for name, value in own}
     return Options(**{**known, **{name: (*known.get(name, ()), *values) for name, values in further.items()}})

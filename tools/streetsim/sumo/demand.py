@@ -86,7 +86,7 @@ class Demand:
             self.read_element(path, element)
             text = element.get(DEPARTS.get(element.tag, ""), "0")
             if element.tag in DEPARTS and text not in NO_TIMES:
-                if (clock := seconds(text)) < latest:
+                if (clock := self.vehicles[-1].depart if element.tag == "vehicle" else seconds(text)) < latest:
                     self.unsorted.append(element.get("id", ""))
                 latest = max(latest, clock)
 
@@ -204,6 +204,8 @@ class Demand:
     def note_ignored(self, element: Element, read: Set[str] = READ) -> None:
         """Reports all attributes of an element that are not among those that are read, and all elements in it that are
         not in READ_INSIDE, as ignored."""
+        if element.attrib.keys() <= read and all([one.tag in READ_INSIDE for one in element]):
+            return
         inside = (f"<{one.tag}>" for one in element if one.tag not in READ_INSIDE)
         for name in [*(set(element.keys()) - read - USED_ATTRIBUTES), *inside]:
             self.report.ignored[f"{name} of {element.tag}s"] += 1
@@ -251,6 +253,8 @@ class Demand:
 
 def further_attributes(element: Element) -> tuple[tuple[str, str], ...]:
     """The attributes, (name, value), of a vehicle, trip or flow that are neither in READ nor in ENDS."""
+    if element.attrib.keys() <= READ_OR_END:
+        return ()
     return tuple((name, value) for name, value in element.items() if name not in READ_OR_END)
 
 
@@ -320,7 +324,7 @@ def plan_or_reason(
     """(links of a vehicle, empty text), as Network.assign_route gives and counts them, or (None, why it cannot drive);
     Fault where why_no_way raises one. stops: the lane at which it stops, by the edge's position in its route; vclass:
     its class, of those that are kept."""
-    if any(edge in net.dropped for edge in vehicle.edges):
+    if not net.dropped.isdisjoint(vehicle.edges):
         return None, "an edge of the route has no lane for the classes"
     if len(vehicle.edges) > limits.PLAN:
         return None, f"a route of more than {limits.PLAN:,} edges"

@@ -3,25 +3,21 @@ grow otherwise here."""
 from collections import Counter, defaultdict
 from collections.abc import Collection, Iterable, Iterator, Mapping, Sequence
 from dataclasses import replace
-from itertools import chain, groupby, pairwise
+from itertools import chain, pairwise
 from typing import Protocol
 
 from streetsim.model.fullness import LEFT_TURN, MERGING, RIGHT_TURN, STRAIGHT, TURNAROUND, FullLane, Fullness
-from streetsim.sumo.crossing import CrossingMovement, EdgePair, Flows, hourly_flows
+from streetsim.sumo.crossing import Crossing, CrossingMovement, EdgePair, Flows, hourly_flows
 from streetsim.sumo.demand import DemandVehicle
-from streetsim.sumo.gaps import until_first
+from streetsim.sumo.lane_capacity import capacity, crossings_of
 from streetsim.sumo.merges import Merge
 from streetsim.sumo.net import SumoNet
-from streetsim.sumo.network import Network
-from streetsim.sumo.signals import movements
-from streetsim.sumo.yielding import LEAST_PASSING, capacity
 
 PART_SECONDS, LEAST_PART = 900, 1 / 8  # that are looked at alone; share of the vehicles, below which these are not
 LEAST_FLOW = 30.0  # vehicles an hour of a lane
 # Shares of what can pass, from which on a lane at a light is nearly full: where some wait for gaps, and where none do.
 FULL, FULL_IN_TURN = 0.8, 1.0
 WAYS = {"l": LEFT_TURN, "r": RIGHT_TURN, "t": TURNAROUND}  # by SUMO's directions; others are STRAIGHT
-Movements = Mapping[str, Mapping[int, CrossingMovement]]  # by junction and request, as `movements` gives them
 LaneAndPairs = tuple[FullLane, Collection[EdgePair]]  # and the edge pairs of those who pass it
 Times = tuple[int, int]  # begin and end, seconds
 WHOLE_DEMAND = 0, 0  # times of the whole demand
@@ -40,25 +36,23 @@ class OnWay(Protocol):
 
 
 def fullness(
-    net: SumoNet, network: Network, vehicles: Sequence[DemandVehicle], merges: Sequence[Merge], of_demand: Movements
-) -> Fullness:
+    net: SumoNet, crossings: Mapping[str, Crossing], vehicles: Sequence[DemandVehicle], merges: Sequence[Merge],
+    flows: Flows,
+) -> Fullness:  # fmt: skip
     """The nearly full lanes of a demand, by its flows and by those of each quarter of an hour in which more than
     LEAST_PART of the vehicles depart. The flow of an edge is split evenly over the lanes that lead on, as vehicles of
-    SUMO do not see who turns ahead. of_demand: the movements by the flows of the whole demand."""
-    ways, limits_of = ways_of(net), {link.edge: link.limit for link in network.links}
-    worst: dict[str, LaneAndPairs] = {}
-    parts = ((times, flows, movements(net, limits_of, flows)) for times, flows in flows_of_parts(vehicles))
-    for times, flows, part_movements in chain([(WHOLE_DEMAND, hourly_flows(vehicles), of_demand)], parts):
-        note_worst(worst, chain(full_at_lights(part_movements, ways), full_merges(merges, flows)), times)
+    SUMO do not see who turns ahead. crossings: by junction with a light; flows: of the whole demand."""
+    ways, worst = ways_of(net), dict[str, LaneAndPairs]()
+    for times, own in chain([(WHOLE_DEMAND, flows)], flows_of_parts(vehicles)):
+        note_worst(worst, chain(full_at_lights(crossings, own, ways), full_merges(merges, own)), times)
     return count_passing(worst, vehicles)
 
 
-def full_lanes_at_lights(net: SumoNet, vehicles: Sequence[OnWay], limits_of: Mapping[str, int]) -> list[FullLane]:
-    """The nearly full lanes at lights under the programs of a network, as `fullness` finds them. limits_of: cells a
-    step, by edge."""
-    ways, worst = ways_of(net), dict[str, LaneAndPairs]()
+def full_lanes_at_lights(net: SumoNet, vehicles: Sequence[OnWay]) -> list[FullLane]:
+    """The nearly full lanes at lights under the programs of a network, as `fullness` finds them."""
+    ways, worst, crossings = ways_of(net), dict[str, LaneAndPairs](), crossings_of(net)
     for times, flows in chain([(WHOLE_DEMAND, hourly_flows(vehicles))], flows_of_parts(vehicles)):
-        note_worst(worst, full_at_lights(movements(net, limits_of, flows), ways), times)
+        note_worst(worst, full_at_lights(crossings, flows, ways), times)
     return [one for one, _ in worst.values()]
 
 
@@ -78,10 +72,12 @@ def note_worst(worst: dict[str, LaneAndPairs], full_lanes: Iterable[LaneAndPairs
         worst[full_lane.lane] = replace(fullest[0], begin=begin, end=end), fullest[1]
 
 
-def full_at_lights(movements_at: Movements, ways: Mapping[EdgePair, str]) -> Iterator[LaneAndPairs]:
-    """The nearly full lanes of all junctions with lights."""
-    for name, at_junction in movements_at.items():
-        yield from full_at_light(name, at_junction.values(), ways)
+def full_at_lights(
+    crossings: Mapping[str, Crossing], flows: Flows, ways: Mapping[EdgePair, str]
+) -> Iterator[LaneAndPairs]:
+    """The nearly full lanes of all junctions with lights by some flows."""
+    for name, crossing in crossings.items():
+        yield from full_at_light(name, crossing.by_flows(flows).values(), ways)
 
 
 def flows_of_parts(vehicles: Sequence[OnWay]) -> Iterator[tuple[Times, Flows]]:
@@ -104,24 +100,12 @@ def full_at_light(
         lanes[movement.lane].append(movement)
     for (edge, index), sharing in lanes.items():
         wish = sum(movement.flow for movement in sharing)
-        demand = wish / min(capacity(sharing, wish), by_greens(sharing, wish)) if wish >= LEAST_FLOW else 0.0
+        demand = wish / capacity(sharing, wish) if wish >= LEAST_FLOW else 0.0
         waiting = [movement for movement in sharing if movement.waits and movement.flow]
         if demand >= (FULL if waiting else FULL_IN_TURN):
             source, target = max(waiting or sharing, key=lambda movement: movement.flow).pair
             where = junction, f"{edge}_{index}", ways[source, target], source, target
             yield FullLane(*where, round(demand, 2), waits=bool(waiting)), [movement.pair for movement in sharing]
-
-
-def by_greens(sharing: Sequence[CrossingMovement], wish: float) -> float:
-    """Vehicles an hour that a lane lets pass, of wish that want to (above 0), if nobody waited for gaps: where only
-    some of its movements have green, those before the first vehicle of another one; LEAST_PASSING at least."""
-    cycle, each = sharing[0].cycle, sum(one.flow * one.headway for one in sharing) / wish
-    greens = list(zip(*(f"{one.green:0{cycle}b}"[::-1] for one in sharing)))  # by second, of each movement 0 or 1
-    held_by = {green: sum(one.flow for one, on in zip(sharing, green) if on == "0") / wish for green in set(greens)}
-    held = [held_by[green] for green in greens]
-    queues = ((share, len(list(seconds)) / each) for share, seconds in groupby(held))
-    vehicles = sum(until_first(queue, share) if share else queue for share, queue in queues)
-    return max(LEAST_PASSING, vehicles * 3600 / cycle)
 
 
 def full_merges(merges: Iterable[Merge], flows: Flows) -> Iterator[LaneAndPairs]:

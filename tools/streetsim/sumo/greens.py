@@ -7,10 +7,8 @@ TIME_GAP, ROOM = 1.42, 7.5  # in SUMO (g - start) / (TIME_GAP + ROOM / speed) pa
 EARLY, ACCELERATION = 1.87, 2.6  # start is what a vehicle loses that speeds up, speed / (2 * ACCELERATION), less EARLY
 HEADWAYS, EXTRA_GREEN = (3.0, 2.07, 1.89, 1.83, 1.83), 1.35  # here (g + EXTRA_GREEN) / HEADWAYS, by the link's limit;
 SHORT = (0.8, 0.97, 1.68, 2.45, 2.82, 3.37)  # in 1 to 6 seconds so many
-LEAST_PAUSE = 2  # seconds, below which a green is not shown in two halves
 TWO_PARTS = 9  # seconds of green, from which on seconds in its middle hold a queue up as wanted
 USUAL_SPEED = 13.9  # metres a second, where a junction's is not known
-START = USUAL_SPEED / (2 * ACCELERATION) - EARLY  # seconds until a queue moves that drives straight on, in SUMO
 
 
 def headway(speed: float) -> float:
@@ -60,25 +58,3 @@ def hidden_middle(
         return abs(passing - vehicles)
 
     return half, half + min((0, *range(2, length - half)), key=difference)
-
-
-def parts_shown(length: int, seconds: int, part_count: int, lead: int | None = None) -> list[tuple[int, int]]:
-    """Where seconds of a permissive green of length seconds are shown, (begin, end) from its begin, the end not
-    included: at its end, as those who are given way to go first; or in parts with equal waits before them, so that a
-    vehicle that waits holds its lane up for less long, unless a part would have less than two seconds, or more than 0.9
-    of the green is shown. lead: in two halves, of which the first begins after so many seconds, but for LEAST_PAUSE."""
-    if lead is not None and length - seconds - lead >= LEAST_PAUSE and seconds >= 2:
-        first = seconds // 2
-        return [(lead, lead + first), (length - seconds + first, length)]
-    part_count = part_count if 2 * part_count <= seconds <= 0.9 * length else 1
-    wait, shown = (length - seconds) / part_count, seconds / part_count
-    return [(round((at + 1) * wait + at * shown), round((at + 1) * (wait + shown))) for at in range(part_count)]
-
-
-def parts_shown_in_red(length: int, seconds: int) -> list[tuple[int, int]]:
-    """Where seconds of a red of length seconds are shown to those who may go after a stop, (begin, end) from its begin,
-    the end not included: evenly spread, by twos, of which the first gets an odd one; empty for 0 seconds."""
-    parts = max(1, seconds // 2)
-    sizes = [seconds // parts + (at < seconds % parts) for at in range(parts)] if seconds else []
-    begins = [int((at + 1) * length / (parts + 1) - size / 2) for at, size in enumerate(sizes)]
-    return [(begin, begin + size) for begin, size in zip(begins, sizes, strict=True)]

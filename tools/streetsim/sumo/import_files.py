@@ -14,6 +14,7 @@ from streetsim.sumo.demand import Demand, Unrouted
 from streetsim.sumo.import_ways import vehicles_with_ways
 from streetsim.sumo.net import read_net
 from streetsim.sumo.network import Options
+from streetsim.sumo.part import with_part
 from streetsim.sumo.types import Types
 
 
@@ -62,7 +63,7 @@ def convert(
     additional, routes, trips: paths. trips: files whose vehicles get ways; where there are some, those of `routes` are
     read with them. Unrouted where there are none and a vehicle has no route. What is left out or otherwise than in SUMO
     is said in the report. Fault where a file cannot be read or is not as SUMO has it, where an option names an edge or
-    lane that is not there, and where why_no_way raises one; vehicles without a way are else left out."""
+    lane that is not there, and where why_no_way or with_part raises one; vehicles without a way are else left out."""
     net = read_net(net_path, options.classes, report)
     types = Types(options.seed, report)
     demand = None if trips else Demand(net, types, options.seed, report, options.end)
@@ -75,6 +76,8 @@ def convert(
         for path in routes:
             demand.read_file(path)
         vehicles = demand.completed_vehicles()
+    if options.part:
+        net, vehicles = with_part(net, vehicles, options, report)
     made = converted(net, types, vehicles, options, report)
     if not made[-1] and (routes or trips):
         report.warn("no vehicle drives")

@@ -13,10 +13,8 @@ Yields = Mapping[int, Collection[int]]  # by request those that it gives way to
 
 
 def lit_ways_of(net: SumoNet, network: Network) -> list[LitWays]:
-    """Who gives way at each node whose light has a program, whatever the demand. Nobody where the permissive greens are
-    shown by a given share, nor at edges whose share was surveyed: those shares are shown."""
-    if network.options.permissive is not None:
-        return []
+    """Who gives way at each node whose light has a program, whatever the demand; nobody at edges whose share of
+    permissive greens was surveyed: those shares are shown."""
     turns, number = turns_by_way(network), {name: at for at, name in enumerate(network.nodes)}
     surveyed = {edge for edge, _ in network.options.shares}
     found = (

@@ -16,46 +16,13 @@ from streetsim.model.stops import Visit
 from streetsim.model.waiting import GivingWay, LitWays, TurnKey
 from streetsim.sumo.bundles import LaneKey, bundles_of, closing_lanes, next_edges
 from streetsim.sumo.crossing import Flows
-from streetsim.sumo.driver_words import Pairs, factor_of, refuse_unknown_edges, refuse_unknown_streets
+from streetsim.sumo.driver_words import factor_of, refuse_unknown_edges, refuse_unknown_streets
+from streetsim.sumo.import_options import Options
+from streetsim.sumo.link_choice import LinkChoice
 from streetsim.sumo.links import Link, link_of
 from streetsim.sumo.net import FREE, MAJOR, NetConnection, NetEdge, SumoNet
 from streetsim.sumo.paces import Drivers, Paces
 from streetsim.sumo.pacing import Pacing, residences
-
-MISSING_TURN = 0.5  # what a change between parallel links costs that SUMO has no connection for
-WRONG_LANE = 100.0  # the same from lanes that do not lead to an edge to which others wait for a gap
-OTHERS_LANE = 0.3  # the same of lanes that are open to more classes than others of the edge, where one may use both
-CROWDING = 0.2  # what a link costs each of whose lanes carries as much as its edge's links do on average
-CROWDING_BESIDE = 2.0  # the same where links of an edge lead to a common one and on some of them vehicles wait for gaps
-
-
-@dataclass(frozen=True, slots=True)
-class Options:
-    """What an import can be told; the values are explained in tools/CLOSENESS.md. dawdle and change: of 1,000; zone:
-    cells; residence: steps, None: by the seconds of SUMO; buffer: vehicles; permissive: a share, 0 to 1; begin, end:
-    clocks in seconds."""
-
-    classes: tuple[str, ...] = ("passenger",)
-    strict_turns: bool = False
-    dawdle: int = 170
-    change: int = 1000
-    zone: int = 1000
-    seed: int = 1
-    residence: int | None = None
-    buffer: int = 4
-    permissive: float | None = None  # by the flows
-    begin: int = 0
-    sizes: bool = True  # of vehicles, by their types; else one cell each
-    end: int | None = None  # vehicles that depart then or later are left out
-    ignore_route_errors: bool = False  # leaves out vehicles whose route has edges without a connection
-    # Edges, or lanes by SUMO's names, whose lanes are to be joint with the ones beside them.
-    joint: tuple[str, ...] = ()
-    led: tuple[str, ...] = ()  # lanes that are to be closed, whose turns the links beside them get
-    slow: tuple[str, ...] = ()  # lower limits on stretches of edges, as slowing.slow_of reads them
-    # Of drivers that were measured, as driver_words reads them.
-    speeds: Pairs = ()  # factors of free speeds, by class of street
-    cut: float = 0.0  # seconds of each green
-    shares: Pairs = ()  # of permissive greens, by edge
 
 
 @dataclass(slots=True)
@@ -71,20 +38,6 @@ class Turn:
     accel: float = 2.6  # metres a second and second of usual cars that start as its vehicles do, in the mean
     apart: float = 0.0  # seconds more between two of its queue than between usual cars
     inside: float = 0.0  # metres of the lanes in the junction
-
-
-class ChangeCosts(dict[tuple[int, int], float]):
-    """By a link and a next one what it costs to go there, as far as it was asked for."""
-
-    def __init__(self, cost_of: Callable[[int, int], float]) -> None:
-        """cost_of: gives it, by both links."""
-        super().__init__()
-        self.cost_of = cost_of
-
-    def __missing__(self, pair: tuple[int, int]) -> float:
-        """The cost of a pair that is not known yet."""
-        cost = self[pair] = self.cost_of(*pair)
-        return cost
 
 
 class Network:
@@ -129,28 +82,15 @@ class Network:
         self.add_connections(net, report)
         if not options.strict_turns:
             self.open_both_lanes(report)
-        # The lanes of a link that have a turn to a next link, by both; rising.
-        self.lanes_to: defaultdict[tuple[int, int], list[int]] = defaultdict(list)
-        for source, lane, behind in sorted(self.turns):
-            self.lanes_to[source, behind].append(lane)
-        self.changes = ChangeCosts(self.change_cost)
-        self.open_by_class: dict[tuple[str, str], list[int]] = {}  # links of an edge, as open_links gives them
-        self.leads = {(link, self.links[following].edge) for link, _, following in self.turns}
-        self.unlike = self.edges_with_shared_targets() & {edge for edge, _ in self.waiting}
-        # By link what one more vehicle costs there (weight), its lanes, and the links of its edge.
-        self.crowding_of_links = [
-            (CROWDING_BESIDE if link.edge in self.unlike else CROWDING, len(link.lanes), self.links_of[link.edge])
-            for link in self.links
-        ]
+        self.choice = LinkChoice(
+            self.links, self.links_of, self.users, self.connections_between, self.waiting, self.turns
+        )
         self.residences = residences(net, self.nodes, self.links, options.residence, dawdle, self.paces, flows)
         pacing = Pacing(net, self.links, flows, self.paces, self.residences, dawdle)
         for link, users in zip(self.links, self.users, strict=True):
             pacing.set_cells(link, users)
             link.cells = max(1, round(link.cells / factor_of(options.speeds, link.speed)))
         self.buffers = buffer_sizes(self.links, len(self.nodes), options)
-        self.use: list[float] = [0] * len(self.links)  # vehicles that a link carries, as `equivalents` counts them
-        # (edge, next edge): in how many others' place a vehicle counts that waits for a gap
-        self.equivalents: Mapping[tuple[str, str], float] = {}
         self.joined: set[tuple[int, int]] = set()
         self.yields: list[GivingWay] = []
         self.last_depart = options.begin  # departure
@@ -225,21 +165,22 @@ class Network:
 
     def serves(self, link: int, following: int) -> list[int]:
         """The lanes of a link that have a turn to a next link; empty where none has."""
-        return self.lanes_to.get((link, following), [])
+        return self.choice.lanes_to.get((link, following), [])
 
     def connect_links(self, link: int, following: int) -> None:
         """Adds turns from all lanes of a link to a next link, of an edge that its edge leads to, each with the signal
         of the nearest connection between these edges, and notes the pair in joined; none where it has a turn there."""
-        if (link, following) in self.lanes_to:
+        if (link, following) in self.choice.lanes_to:
             return
-        connections = self.connections_between[self.links[link].edge, self.links[following].edge]
+        pair = self.links[link].edge, self.links[following].edge
+        connections = self.connections_between[pair]
         for lane, index in enumerate(self.links[link].lanes):
             nearest = min(connections, key=lambda connection: abs(connection.source_lane - index))
             next_lane = min(lane, len(self.links[following].lanes) - 1)
             self.turns[link, lane, following] = self.turn(link, next_lane, nearest, True)
-            self.lanes_to[link, following].append(lane)
+            self.choice.lanes_to[link, following].append(lane)
         self.joined.add((link, following))
-        self.changes.pop((link, following), None)
+        self.choice.forget_steps(*pair)
 
     def open_beside_works(self) -> None:
         """Where a link has no lanes but ones that are to be closed, and its edge has other links, gives these the turns
@@ -261,65 +202,20 @@ class Network:
         missing between them are added. None, and nothing is counted, where two edges that follow each other have no
         connection, or one has no link for its class. edges: kept ones, one at least; stops: the lane that it must go
         over, by the edge's position; vclass: its class, of the options' ones, FREE or empty: any."""
-        pairs = list(pairwise(edges))
-        if any(pair not in self.connections_between for pair in pairs):
-            return None
-        links = [self.open_links(edge, vclass) for edge in edges]
+        choice = self.choice
+        ways = choice.open_links(edges, vclass)
         for at, key in stops.items():
-            link, _ = self.place_of[key]
-            links[at] = [] if vclass in self.links[link].closed else [link]
-        if not all(links):
+            (ways[at],) = choice.open_links([edges[at]], vclass, self.place_of[key][0])
+        steps = choice.steps_of(ways)
+        if steps is None or not all([some.links for some in ways]):
             return None
-        plan = tuple(some[0] for some in links)
-        if any(len(some) > 1 for some in links):
-            plan = self.cheapest(links, vclass)
-        self.use[plan[-1]] += 1
-        for link, following, pair in zip(plan, plan[1:], pairs):
-            self.use[link] += self.equivalents.get(pair, 1)
-            self.connect_links(link, following)
+        plan = choice.cheapest(ways, steps)
+        choice.use[plan[-1]] += 1
+        for pair, step in zip(pairwise(plan), steps):
+            choice.use[pair[0]] += step.vehicles
+            if pair not in choice.lanes_to:
+                self.connect_links(*pair)
         return plan
-
-    def open_links(self, edge: str, vclass: str) -> list[int]:
-        """The links of an edge that are open to a class; empty where none is."""
-        if (edge, vclass) not in self.open_by_class:
-            own = [link for link in self.links_of[edge] if vclass not in self.links[link].closed]
-            self.open_by_class[edge, vclass] = own
-        return self.open_by_class[edge, vclass]
-
-    def cheapest(self, links: Sequence[Sequence[int]], vclass: str) -> tuple[int, ...]:
-        """The plan of least cost of a vehicle of a class, by one of some links for each of its edges."""
-        best: list[tuple[float, tuple[int, ...]]]
-        best, changes = [(own, (link,)) for link, own in self.costs(links[0], vclass)], self.changes
-        for some in links[1:]:
-            further = []
-            for link, own in self.costs(some, vclass):
-                cost, path = min([(cost + own + changes[path[-1], link], path) for cost, path in best])
-                further.append((cost, (*path, link)))
-            best = further
-        return min(best)[1]
-
-    def edges_with_shared_targets(self) -> set[str]:
-        """The edges of which two links or more lead to one next edge."""
-        ways = Counter((self.links[link].edge, target) for link, target in self.leads)
-        return {edge for (edge, _), count in ways.items() if count > 1}
-
-    def change_cost(self, link: int, following: int) -> float:
-        """The cost of going from a link to a next one to which it has no turn; 0 where it has one, added or not."""
-        if (link, following) in self.lanes_to:
-            return 0.0
-        edge, target = self.links[link].edge, self.links[following].edge
-        wrong = (edge, target) in self.waiting and (link, target) not in self.leads
-        return WRONG_LANE if wrong else MISSING_TURN
-
-    def costs(self, links: Sequence[int], vclass: str) -> Iterator[tuple[int, float]]:
-        """Links of an edge, each with its cost to a vehicle of a class: for what each of its lanes carries so far,
-        against the mean of its edge's links, and where it is open to more classes than others of the edge."""
-        use, (weight, _, group) = self.use, self.crowding_of_links[links[0]]
-        total = sum([use[other] for other in group])
-        for link in links:
-            lanes, users = self.crowding_of_links[link][1], self.users[link]
-            crowding = weight * use[link] / lanes * len(group) / total if total else 0.0
-            yield link, crowding + (OTHERS_LANE if users is not None and vclass not in users else 0.0)
 
     def load_command(self) -> Command:
         """The load command of this network."""

@@ -1,28 +1,25 @@
-"""What a map keeps of lights that SUMO times by detectors, and of lights that buses pass: their programs, the lanes
-before them, who gives way there. The packages actuated and buses read it."""
+"""What a map keeps of lights that SUMO times by detectors, and of lights that buses pass: their programs and the lanes
+before them. The packages actuated and buses read it."""
 from collections import defaultdict
-from collections.abc import Container, Iterable, Mapping, Sequence
-from dataclasses import astuple
+from collections.abc import Container, Iterable
 from itertools import pairwise
 from typing import Any
 
 from streetsim.base.files import Json
 from streetsim.model.runs import Command
-from streetsim.sumo.crossing import Flows
 from streetsim.sumo.demand import DemandVehicle
-from streetsim.sumo.net import STATIC, NetConnection, SumoNet, connections_of, connections_to_lanes
+from streetsim.sumo.net import STATIC, NetConnection, SumoNet, connections_to_lanes
 from streetsim.sumo.network import Network
-from streetsim.sumo.signals import light_of
 from streetsim.sumo.types import Kind, Types
 
 MOST_BEFORE = 4  # lanes before one, on which its detector may lie
 
 
-def kept_programs(net: SumoNet, network: Network, lights: Iterable[tuple[str, int]], flows: Flows) -> list[Json]:
+def kept_programs(net: SumoNet, lights: Iterable[tuple[str, int]]) -> list[Json]:
     """What a map keeps of each program that is not static: {"light", "program": its name, "idle": True where it is not
     in force (these come last), "kind", "offset": seconds, "phases": [[seconds, state, minDur, maxDur, [next phases]]],
-    "parameters" and "more": as in LightProgram, "ways", "lanes" and "nodes" (of the light): lists of what
-    connection_fields, lane_fields and node_fields give, "timing": as in LightProgram, of NEMA lights alone}. lights:
+    "parameters" and "more": as in LightProgram, "ways" and "lanes": lists of what connection_fields and lane_fields
+    give, "nodes": those of the light, [{"node": number}], "timing": as in LightProgram, of NEMA lights alone}. lights:
     (light, node)."""
     nodes = nodes_by_light(lights)
     programs = [
@@ -31,7 +28,6 @@ def kept_programs(net: SumoNet, network: Network, lights: Iterable[tuple[str, in
         for kept_program in net.programs_of(light)
         if kept_program.kind != STATIC
     ]
-    at_junction = connections_of(net) if programs else {}
     connections_into = connections_to_lanes(net) if programs else {}
     program_rows = []
     for is_idle, light, program in sorted(programs, key=lambda row: row[0]):
@@ -49,27 +45,26 @@ def kept_programs(net: SumoNet, network: Network, lights: Iterable[tuple[str, in
             "more": list(program.further_names),
             "ways": [connection_fields(connection, net) for connection in connections],
             "lanes": [lane_fields(*key, net, connections_into) for key in lanes],
-            "nodes": [node_fields(node, network.nodes[node], net, flows, at_junction) for node in nodes[light]],
+            "nodes": [{"node": node} for node in nodes[light]],
             **({"timing": [list(timing) for timing in program.timing]} if program.timing else {}),
         })
     return program_rows
 
 
 def fixed_programs(
-    net: SumoNet, network: Network, lights: Iterable[tuple[str, int]], flows: Flows, wanted_lights: Container[str]
+    net: SumoNet, lights: Iterable[tuple[str, int]], wanted_lights: Container[str]
 ) -> list[Json]:
     """What a map keeps of each of wanted_lights whose program in force is static, so that it can wait for buses:
-    {"light", "program": its name, "offset": seconds, "phases": [[seconds, state, minDur, maxDur]], "nodes": a list of
-    what node_fields gives}. lights: (light, node)."""
+    {"light", "program": its name, "offset": seconds, "phases": [[seconds, state, minDur, maxDur]], "nodes": as of
+    kept_programs}. lights: (light, node)."""
     nodes = {light: own_nodes for light, own_nodes in nodes_by_light(lights).items() if light in wanted_lights}
-    at_junction = connections_of(net) if nodes else {}
     return [
         {
             "light": light,
             "program": program.name,
             "offset": program.offset,
             "phases": [[seconds, state, *bounds] for (seconds, state), bounds in zip(program.phases, program.bounds)],
-            "nodes": [node_fields(node, network.nodes[node], net, flows, at_junction) for node in own_nodes],
+            "nodes": [{"node": node} for node in own_nodes],
         }
         for light, own_nodes in sorted(nodes.items())
         for program in (net.programs[light],)
@@ -91,9 +86,10 @@ def lights_of_riders(
     """The names of lights that vehicles pass which have a line of public transport, or another class than passenger.
     entered: the enter commands of the vehicles driven, in one order."""
     light_at = {(link, following): turn.light for (link, _, following), turn in network.turns.items() if turn.light}
+    others = {name for name, kind in types.kinds.items() if kind.vclass != Kind().vclass}
     found: set[str] = set()
     for command, vehicle in zip(entered, driven, strict=True):
-        if vehicle.line or types.kinds.get(vehicle.type, Kind()).vclass != Kind().vclass:
+        if vehicle.line or vehicle.type in others:
             found.update(light for pair in pairwise(command["plan"]) if (light := light_at.get(pair)))
     return found
 
@@ -120,22 +116,3 @@ def lane_fields(
         metres = next(one.metres for one in net.edges[key[0]].lanes if one.index == key[1])
         stretches.append([f"{key[0]}_{key[1]}", metres])
     return [f"{edge}_{index}", lane.speed, len(net.edges[edge].lanes) == 1, stretches]
-
-
-def node_fields(
-    number: int, name: str, net: SumoNet, flows: Flows, at_junction: Mapping[str, Sequence[NetConnection]]
-) -> Json:
-    """What says who gives way at a node: {"node": its number, "connections": the fields, in a list, of each that its
-    light controls or that has no light, "yields": [[request, [those that it gives way to]]], "flows": [[edge, next
-    edge, vehicles an hour]]}. All three lists are empty where one of them is not known. name: of its junction;
-    at_junction: connections by junction."""
-    light = light_of(at_junction[name], net)
-    own = [one for one in at_junction[name] if one.light in (light, None)]
-    is_known = bool(flows) and bool(net.yields.get(name)) and all(one.request is not None for one in own)
-    ways = dict.fromkeys((one.source, one.target) for one in own)
-    return {
-        "node": number,
-        "connections": [list(astuple(one)) for one in own] if is_known else [],
-        "yields": [[request, sorted(foes)] for request, foes in net.yields[name].items()] if is_known else [],
-        "flows": [[*way, flows[way]] for way in ways if way in flows] if is_known else [],
-    }

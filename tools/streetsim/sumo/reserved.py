@@ -20,6 +20,8 @@ def reserved_lanes(
         for name in other_classes
         if users and name in users
     }
+    if not reserved_edges:
+        return None
     edges = {name: {edge for edge, one in reserved_edges if one == name} for name in other_classes}
     met = [
         (name, own) for vehicle in vehicles

@@ -1,32 +1,27 @@
 """Makes signal commands of SUMO's signal programs."""
 from collections import defaultdict
 from collections.abc import Iterable, Iterator, Mapping, Sequence
-from dataclasses import dataclass, field
+from dataclasses import dataclass
 from itertools import chain, cycle as cycle_of, groupby, islice, product, takewhile
-from operator import itemgetter
 
 from streetsim.base import limits
 from streetsim.base.files import Fault
 from streetsim.base.report import Report, first_few
-from streetsim.model.mapping import MapTurn
+from streetsim.model.mapping import Map, MapTurn
 from streetsim.model.runs import Command
 from streetsim.model.timing import spans_of, states_of
 from streetsim.model.waiting import LitWays, TurnKey, ways_at
-from streetsim.sumo.crossing import ANY_GREEN, GREEN, OPEN, STOPS_FIRST, CrossingMovement, Flows, movements_of
-from streetsim.sumo.driver_words import Pairs, cut_at, with_cut
-from streetsim.sumo.greens import TWO_PARTS, hidden_middle, hidden_start, parts_shown, parts_shown_in_red
-from streetsim.sumo.net import NEMA, STATIC, LightProgram, NetConnection, SumoNet, connections_of
+from streetsim.sumo.crossing import ANY_GREEN, GREEN, OPEN
+from streetsim.sumo.driver_words import Pairs, cut_at, measured_of, with_cut
+from streetsim.sumo.greens import TWO_PARTS, hidden_middle, hidden_start
+from streetsim.sumo.net import NEMA, STATIC, LightProgram, NetConnection, SumoNet
 from streetsim.sumo.network import Network, Turn
-from streetsim.sumo.yielding import settle
 
 Green = frozenset[TurnKey]
 AtLight = tuple[int, int, int, Turn | MapTurn]  # link, lane, next link
-# How much of a green, or of a red in which one may go, is shown: seconds, parts, and the lead of greens.parts_shown.
-ShownPart = tuple[int, int, int | None]
-ShownSeconds = Mapping[int | None, Mapping[int, ShownPart]]  # by index in a light's state, and by first second
-NOTHING: ShownPart = (0, 1, None)
-AS_MAIN = 0  # the parts of a permissive green against which nobody comes
-DEFAULT_SHARE = 0.7  # of a permissive green that is shown, where nothing is known of who gives way
+# By index in a light's state and by first second of a permissive green: how many of its last seconds are shown.
+ShownSeconds = Mapping[int, Mapping[int, int]]
+AS_MAIN = -1  # in place of seconds: a permissive green against which nobody comes
 LONGEST = 200_000  # seconds of a cycle that are read
 SECONDS_AFTER = 86_400  # the last departure, for which a program is told that does not fit in one plan
 MOST_LINES = 100_000  # of such a program; one each 6 s of a week
@@ -39,68 +34,32 @@ FINE = GRAINS[:2]
 
 @dataclass(frozen=True, slots=True)
 class LitNode:
-    """A node with a light. Where movements is empty, a share of each permissive green is shown: of a green in which
-    vehicles give way."""
+    """A node with a light."""
 
     node: int
     turns: Sequence[AtLight]
     edges: Mapping[int, str]  # of the turns' links
     light: str
     program: LightProgram
-    permissive: float | None  # the share, of each permissive green its last part; None: DEFAULT_SHARE
     report: Report
-    movements: Mapping[int, CrossingMovement] = field(default_factory=dict)  # by request: who gives way there
     cut: float = 0.0  # seconds that are cut from greens, in the mean over nodes
     shares: Pairs = ()  # of permissive greens that were surveyed: (edge, share)
-    ways: LitWays | None = None  # who gives way, where runs decide it: permissive greens are whole
+    ways: LitWays | None = None  # who gives way, as runs decide second by second; None: nobody does
 
     def states(self) -> list[str]:
         """The light's state, SUMO's letters, in each second of its cycle. Fault where each_second raises one."""
         return each_second(self.light, self.program)
 
     def shown_seconds(self, states: Sequence[str]) -> ShownSeconds:
-        """What is shown, by first second, as shown_by_gaps or shown_by_share has it; states: as states gives them."""
-        if self.ways is not None:
-            seconds_shown: ShownSeconds = dict(shown_alone(self.ways, self.light, self.turns, states))
-        elif self.movements:
-            seconds_shown = shown_by_gaps(self.movements)
-        else:
-            seconds_shown = shown_by_share(self.light, self.turns, states, self.permissive)
+        """What is shown of permissive greens: all of those in which some give way, as runs decide who goes; the last
+        share of those that were surveyed. states: as states gives them."""
+        ways = self.ways or LitWays(self.node, (), ())
+        seconds_shown: ShownSeconds = dict(shown_alone(ways, self.light, self.turns, states))
         known = {edge: share for edge, share in self.shares}
         for edge in known.keys() & {*self.edges.values()}:
             own = [one for one in self.turns if self.edges[one[0]] == edge]
             seconds_shown = {**seconds_shown, **shown_by_share(self.light, own, states, known[edge])}
         return seconds_shown
-
-
-def movements(
-    net: SumoNet, limits_of: Mapping[str, int], flows: Flows
-) -> dict[str, dict[int, CrossingMovement]]:
-    """The connections of each junction with a light over its cycle, {junction: {request: movement}}, with the seconds
-    that are shown (settle); empty without flows, and without the junctions for which movements_of_junction gives none.
-    limits_of: cells a step, by edge; flows: vehicles an hour by (edge, next edge). Fault where each_second or
-    check_states raises one."""
-    at_junction = connections_of(net) if flows else {}
-    found = {name: movements_of_junction(name, own, net, flows, limits_of) for name, own in at_junction.items()}
-    return {junction: own for junction, own in found.items() if own}
-
-
-def movements_of_junction(
-    junction: str, connections: Sequence[NetConnection], net: SumoNet, flows: Flows, limits_of: Mapping[str, int]
-) -> dict[int, CrossingMovement]:
-    """The movements of one junction, {request: movement}, with the seconds that are shown (settle); of several lights
-    one alone counts (light_of), and connections of others are left out. Empty where no light of it has a program, or it
-    is not known who gives way to whom. connections: all of the junction; flows: vehicles an hour by (edge, next edge);
-    limits_of: cells a step, by edge. Fault where each_second or check_states raises one."""
-    light = light_of(connections, net)
-    ours = [connection for connection in connections if connection.light in (light, None)]
-    if not light or not net.yields.get(junction) or any(connection.request is None for connection in ours):
-        return {}
-    states = each_second(light, net.programs[light])
-    check_states(light, states, ours)
-    found = movements_of(ours, states, net.yields[junction], flows, limits_of)
-    settle(list(found.values()))
-    return found
 
 
 def light_of(turns: Iterable[NetConnection | Turn | MapTurn], net: SumoNet) -> str | None:
@@ -118,32 +77,32 @@ def turns_at(network: Network) -> dict[int, list[AtLight]]:
 
 
 def lit_node(
-    net: SumoNet,
-    network: Network,
-    node: int,
-    turns: Sequence[AtLight],
-    light: str,
-    movements: Mapping[int, CrossingMovement],
-    report: Report,
+    net: SumoNet, network: Network, node: int, turns: Sequence[AtLight], light: str, report: Report
 ) -> LitNode:
-    """A node with a light and its program in the network; movements: as in LitNode."""
+    """A node with a light and its program in the network."""
     edges = {link: network.links[link].edge for link, *_ in turns}
     measured = network.options.cut, network.options.shares
-    program, permissive = net.programs[light], network.options.permissive
-    ways = ways_at(network.lit_ways, node)
-    return LitNode(node, turns, edges, light, program, permissive, report, movements, *measured, ways)
+    return LitNode(node, turns, edges, light, net.programs[light], report, *measured, ways_at(network.lit_ways, node))
+
+
+def lit_node_of(
+    mapping: Map, node: int, turns: Sequence[AtLight], light: str, program: LightProgram, report: Report
+) -> LitNode:
+    """A node of a map with a light that shows a program. Fault where the map is of an import that did not say who gives
+    way at lights, and some do in the program."""
+    if not mapping.says_who_gives_way and any(letter in OPEN for _, state in program.phases for letter in state):
+        raise Fault(f"light {light!r}: the map, of earlier tools, does not say who gives way: import the run anew")
+    edges = {link: mapping.links[link].edge for link, *_ in turns}
+    ways = ways_at(mapping.lit_ways, node)
+    return LitNode(node, turns, edges, light, program, report, *measured_of(mapping), ways)
 
 
 def signal_commands(
-    net: SumoNet,
-    network: Network,
-    movements_at: Mapping[str, Mapping[int, CrossingMovement]],
-    report: Report,
-    ends: Mapping[str, int],
+    net: SumoNet, network: Network, report: Report, ends: Mapping[str, int]
 ) -> list[tuple[str, Command]]:
     """The signal commands, (light, command), as signal_lines gives them for each node where a light has a program.
-    movements_at: of movements; ends: by light the last clock of this program, where it changes by time of day; else
-    SECONDS_AFTER behind network.last, which must be set. Lights without a program, not static or too long are told."""
+    ends: by light the last clock of this program, where it changes by time of day; else SECONDS_AFTER behind
+    network.last, which must be set. Lights without a program, not static or too long are told."""
     commands = []
     for node, turns in sorted(turns_at(network).items()):
         lights = {turn.light for *_, turn in turns if turn.light}
@@ -155,8 +114,7 @@ def signal_commands(
             told = f"junction {junction!r}: of its lights {', '.join(programmed)} the first alone is used"
             report.warn(told, [junction], kind="junctions have several lights, of which the first alone is used")
         if programmed:
-            movements = movements_at.get(junction, {}) if network.options.permissive is None else {}
-            lit = lit_node(net, network, node, turns, programmed[0], movements, report)
+            lit = lit_node(net, network, node, turns, programmed[0], report)
             until = ends.get(programmed[0], network.last_depart + SECONDS_AFTER)
             commands += [(programmed[0], command) for command in signal_lines(lit, network.options.begin, until)]
     for light in sorted({light for light, _ in commands}):
@@ -281,25 +239,11 @@ def check_states(light: str, states: Sequence[str], turns: Iterable[Turn | MapTu
             raise Fault(f"light {light!r}: a state is shorter than link index {turn.index}")
 
 
-def shown_by_gaps(movements: Mapping[int, CrossingMovement]) -> ShownSeconds:
-    """What is shown of permissive greens, and of reds in which one may go after a stop, by the movements of those who
-    give way; of movements that share an index the most. One against which nobody comes goes as if first (AS_MAIN
-    parts)."""
-    by_index: defaultdict[int | None, dict[int, ShownPart]] = defaultdict(dict)
-    for movement in movements.values():
-        of_index = by_index[movement.index]
-        for start, seconds in movement.shown_seconds.items():
-            parts = movement.shown_parts if movement.foes or start in movement.stops else AS_MAIN
-            own = seconds, parts, movement.leads.get(start)
-            of_index[start] = max(own, of_index.get(start, NOTHING), key=itemgetter(0, 1))
-    return by_index
-
-
 def shown_alone(
     ways: LitWays, light: str, turns: Sequence[AtLight], states: Sequence[str]
-) -> Iterator[tuple[int | None, dict[int, ShownPart]]]:
+) -> Iterator[tuple[int, dict[int, int]]]:
     """What is shown, by index, of permissive greens in which nobody has green who goes first: as of main ones; of
-    others nothing is said. states: of the light, one for each second."""
+    others nothing is said, so that they are whole. states: of the light, one for each second."""
     index_of = {(link, lane, to): turn.index for link, lane, to, turn in turns if turn.light == light}
     indexes = [{index_of.get(turn) for turn in way} for way in ways.ways]
     foes = defaultdict[int, set[int | None]](set)
@@ -307,24 +251,24 @@ def shown_alone(
         for index in indexes[own]:
             if index is not None:
                 foes[index] |= indexes[foe]
-    for index, others in foes.items():
-        lit = [other for other in others if other is not None]
-        met = [len(lit) < len(others) or any(state[other] in ANY_GREEN for other in lit) for state in states]
-        runs = spans_of("".join(state[index] for state in states), OPEN)
-        alone = ((start, length) for start, length in runs if not any((met * 2)[start : start + length]))
-        yield index, {start: (length, AS_MAIN, None) for start, length in alone}
+    signs = ["".join(each) for each in zip(*states)]
+    for index in {*index_of.values()}:
+        lit = [[sign in ANY_GREEN for sign in signs[other]] for other in foes[index] if other is not None]
+        is_always_met = len(lit) < len(foes[index])
+        met = [is_always_met or any(each) for each in zip(*lit)] if lit else [is_always_met] * len(states)
+        runs = spans_of(signs[index], OPEN)
+        yield index, {start: AS_MAIN for start, length in runs if not any((met * 2)[start : start + length])}
 
 
 def shown_by_share(
-    light: str, turns: Sequence[AtLight], states: Sequence[str], permissive: float | None
+    light: str, turns: Sequence[AtLight], states: Sequence[str], share: float
 ) -> ShownSeconds:
-    """What is shown of permissive greens, where it is the last share of each. states: of the light, one for each
-    second; permissive: the share, 0 to 1; None: DEFAULT_SHARE."""
-    hidden_share = 1 - (DEFAULT_SHARE if permissive is None else permissive)
-    made: dict[int | None, dict[int, ShownPart]] = {}
+    """What is shown of permissive greens, where it is the last share, 0 to 1, of each. states: of the light, one for
+    each second."""
+    made: dict[int, dict[int, int]] = {}
     for index in {turn.index for *_, turn in turns if turn.light == light}:
         runs = spans_of("".join(state[index] for state in states), OPEN)
-        made[index] = {start: (length - round(length * hidden_share), 1, None) for start, length in runs}
+        made[index] = {start: length - round(length * (1 - share)) for start, length in runs}
     return made
 
 
@@ -349,37 +293,30 @@ def green_seconds(
     return [frozenset(green) for green in greens]
 
 
-def with_main_greens(states: str, seconds: Mapping[int, ShownPart]) -> str:
+def with_main_greens(states: str, seconds: Mapping[int, int]) -> str:
     """The letters of a turn in each second, with those of a green that goes first in place of those of the permissive
-    greens whose parts are AS_MAIN; seconds: as in shown_green."""
+    greens that are AS_MAIN; seconds: as in shown_green."""
     letters = list(states)
     for start, length in spans_of(states, OPEN):
-        if seconds.get(start, NOTHING)[1] == AS_MAIN:
+        if seconds.get(start) == AS_MAIN:
             for second in range(start, start + length):
                 letters[second % len(states)] = GREEN[0]
     return "".join(letters)
 
 
 def shown_green(
-    states: str, seconds: Mapping[int, ShownPart], turn: Turn | MapTurn, grain: int, middle: bool
+    states: str, seconds: Mapping[int, int], turn: Turn | MapTurn, grain: int, middle: bool
 ) -> list[bool]:
     """For each second whether a turn shows green; states: the letter of this turn in each second. Of each permissive
-    green, and each red in which one may go after a stop, so many are shown as seconds says, in so many parts ({first
-    second: (seconds, parts, lead)}; where it says nothing, the whole green and nothing of the red); begins and ends are
-    rounded down to grain seconds, a part lasts grain at least. Of each other green that follows a red or yellow some
-    seconds are left out, as SUMO's queues start later and turn slower: those of hidden_seconds, of a green above
-    PHASE_STEPS those of one of QUEUED."""
+    green, by its first second, so many of its last seconds are shown as seconds says, all where it says nothing; the
+    begin is rounded down to grain seconds. Of each other green that follows a red or yellow some seconds are left out,
+    as SUMO's queues start later and turn slower: those of hidden_seconds, of a green above PHASE_STEPS those of one of
+    QUEUED."""
     count = len(states)
     is_shown = [state in GREEN for state in states]
-    greens, reds = spans_of(states, OPEN), spans_of(states, STOPS_FIRST)
-    pieces = [(start, length, parts_shown(length, *seconds.get(start, (length, 1, None)))) for start, length in greens]
-    pieces += [(start, length, parts_shown_in_red(length, seconds.get(start, NOTHING)[0])) for start, length in reds]
-    for start, length, parts in pieces:
-        for begin, end in parts:
-            begin = begin // grain * grain
-            end = length if end == length else max(begin + grain, end // grain * grain)
-            for second in range(begin, min(end, length)):
-                is_shown[(start + second) % count] = True
+    for start, length in spans_of(states, OPEN):
+        for second in range((length - seconds.get(start, length)) // grain * grain, length):
+            is_shown[(start + second) % count] = True
     for start, length in spans_of(states, GREEN):
         if length < count and states[start - 1] not in OPEN:
             for second in hidden_seconds(length if length <= limits.PHASE_STEPS else QUEUED, turn, grain, middle):

@@ -111,7 +111,7 @@ def checked_bus_stop(bus_stop: BusStop, element: Element, net: SumoNet, element_
 
 def stops_in(path: FilePath, owner: Element, net: SumoNet) -> tuple[Stop, ...]:
     """The stops that stand directly in an element (owner), not those of a route inside it."""
-    return tuple(stop_of(path, owner, one, net) for one in owner if one.tag == "stop")
+    return tuple([stop_of(path, owner, one, net) for one in owner if one.tag == "stop"]) if len(owner) else ()
 
 
 def stop_of(path: FilePath, owner: Element, element: Element, net: SumoNet) -> Stop:

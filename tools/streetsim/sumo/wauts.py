@@ -9,12 +9,9 @@ from xml.etree.ElementTree import Element
 from streetsim.base.files import Fault, FilePath, at_least_zero, attribute, element_told, optional, seconds
 from streetsim.base.report import Report, first_few
 from streetsim.model.runs import Command
-from streetsim.sumo.crossing import Flows
-from streetsim.sumo.net import OFF_PROGRAM, LightProgram, SumoNet, Waut, connections_of
+from streetsim.sumo.net import OFF_PROGRAM, LightProgram, SumoNet, Waut
 from streetsim.sumo.network import Network
-from streetsim.sumo.signals import (
-    SECONDS_AFTER, light_of, lit_node, movements_of_junction, signal_lines, turns_at, warn_of_kind,
-)
+from streetsim.sumo.signals import SECONDS_AFTER, light_of, lit_node, signal_lines, turns_at, warn_of_kind
 
 AT_ONCE = "", "JustSwitch"  # procedures by which a light changes at once
 MOST_SWITCHES = 10_000  # of a WAUT in a run; one each 17 s of a day
@@ -111,23 +108,19 @@ def programs_shown(net: SumoNet, days: Mapping[str, Day]) -> Iterator[tuple[str,
 
 
 def day_lines(
-    net: SumoNet, network: Network, days: Mapping[str, Day], flows: Flows, report: Report
+    net: SumoNet, network: Network, days: Mapping[str, Day], report: Report
 ) -> list[tuple[str, Command]]:
     """The signal lines, (light, command with "at"), by which lights show the listed seconds of the programs to which
     they change after the first, the last until SECONDS_AFTER behind network.last, which must be set; reported as by
-    signal_commands. days: of days_of; flows: vehicles an hour by (edge, next edge). Fault where each_second or
-    check_states raises one."""
+    signal_commands. days: of days_of. Fault where each_second or check_states raises one."""
     lines: list[tuple[str, Command]] = []
     turns = turns_at(network)
     lights = {node: light_of((turn for *_, turn in own_turns), net) for node, own_turns in turns.items()}
-    at_junction, limits_of = connections_of(net), {link.edge: link.limit for link in network.links}
     for light, node in sorted((light, node) for node, light in lights.items() if light and light in days):
         programs = {program.name: program for program in net.programs_of(light)}
         for (clock, name), (end, _) in list(pairwise([*days[light], (network.last_depart + SECONDS_AFTER, "")]))[1:]:
             changed = replace(net, programs={**net.programs, light: programs[name]})
-            junction_facts = network.nodes[node], at_junction[network.nodes[node]], changed, flows, limits_of
-            found = movements_of_junction(*junction_facts) if flows and network.options.permissive is None else {}
-            lit = lit_node(changed, network, node, turns[node], light, found, report)
+            lit = lit_node(changed, network, node, turns[node], light, report)
             lines += [(light, {"at": clock, **command}) for command in signal_lines(lit, clock, end - 1)]
             warn_of_kind(light, programs[name], report)
     return lines

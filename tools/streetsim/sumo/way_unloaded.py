@@ -23,7 +23,7 @@ def times_and_capacities_without_routes(net: SumoNet, graph: Graph, options: Opt
     pass), both by movement of the graph, before any route is known. Fault where Network or signals raises one."""
     report = Report()
     network = Network(net, options, report, {})
-    commands = (command for _, command in signal_commands(net, network, {}, report, {}))
+    commands = (command for _, command in signal_commands(net, network, report, {}))
     made = whole_plans((command.get("at", options.begin), command) for command in commands)
     mapping = map_of(network, [], [], report)
     return free_seconds(graph, mapping, made, options.dawdle / 1000), capacities(graph, mapping, made)

@@ -1,0 +1,347 @@
+"""Rows of the junction tables beside SUMO: whether those that are far from SUMO's are doubted, and those that are near
+are not; on lone lights and on streets with works, as a seed draws them."""
+
+import argparse
+import gzip
+import json
+import re
+import shutil
+import xml.etree.ElementTree as ElementTree
+from collections import Counter, defaultdict
+from collections.abc import Iterator, Sequence
+from dataclasses import dataclass
+from pathlib import Path
+from random import Random
+from statistics import fmean
+
+import shared
+from beside_sumo import lit, rows
+from beside_sumo.lit import layout_of, lone_losses, lost_between, variant_of, whole_jams, write_queues
+from beside_sumo.rows import Way
+from networks.lit_streets import programs_of, put_programs
+from networks.unseen import MadeNetwork, make, read_net, ways_of
+from planners.works import EDGE_METRES, EDGE_VEHICLES, Case, Stretch, edges_for, in_sumo, mean_trip, run_here
+from shared import run
+from streetsim.model.service import percentile
+from streetsim.model.tables import MOVEMENTS, read_table
+from streetsim.report.beside_sumo import read_tripinfo
+
+FIRST, LAST = 1350, 2700  # seconds between which movements are compared; the demand begins at 0 and ends at LAST
+SECONDS = range(FIRST, LAST)
+LEVELS = 0.45, 1.0  # of the busiest lane
+HOURLY = 20.0  # vehicles of a movement that is compared
+# Share of SUMO's, and seconds or metres, beyond both of which one is far.
+FAR_DELAY, FAR_QUEUE = (0.25, 10.0), (0.40, 30.0)
+WORKS_LEVEL, WORKS_METRES, WORKS_EVERY = 0.8, 100, 4  # a street's level, of works, and how many networks have them
+MEASURES = "delay", "queue"  # of Measured, that are compared
+WORKS_DOUBTED = "works on"  # in what a last line says against itself
+
+
+@dataclass(frozen=True)
+class Measured:
+    """A movement in a run."""
+
+    vehicles: int
+    delay: float  # seconds
+    queue: float  # metres, of 95 % of the cycles
+    ratio: float = 0.0  # v/c here
+    doubt: str = ""
+
+
+@dataclass(frozen=True)
+class Compared:
+    """A movement, or what works add, in the mean of both sides' runs."""
+
+    network: str
+    name: str
+    theirs: tuple[float, float]  # delay and queue
+    ours: tuple[float, float]
+    doubt: str
+    ratio: float = 0.0  # v/c here
+
+    @property
+    def is_far(self) -> bool:
+        """Whether its delay or its queue is far from SUMO's."""
+        pairs = zip(self.theirs, self.ours, (FAR_DELAY, FAR_QUEUE), strict=True)
+        return any(abs(b - a) > max(share * a, least) for a, b, (share, least) in pairs)
+
+
+# ---- movements at a lone light
+
+
+def movements_in_sumo(network: MadeNetwork, seed: int, seconds: range = SECONDS) -> dict[Way, Measured]:
+    """A run of SUMO, kept by its seed; seconds: in which vehicles leave that count."""
+    seed_file = network.folder / f"movements-{seed}.json"
+    if not seed_file.exists():
+        queues = write_queues(network, layout_of(network.net), seed)
+        trips, ways, statistics = rows.files_of_sumo(network, seed, [queues])
+        found = measured_in_sumo(network, ways, network.folder / f"jams-{seed}.xml", seconds)
+        seed_file.write_text(json.dumps([[*way, *values] for way, values in found.items()]), encoding="utf-8")
+        for path in (trips, ways, statistics, queues, network.folder / f"jams-{seed}.xml"):
+            path.unlink()
+    lines = json.loads(seed_file.read_text(encoding="utf-8"))
+    return {(edge, target): Measured(*values) for edge, target, *values in lines}
+
+
+def measured_in_sumo(network: MadeNetwork, ways: Path, jams: Path, seconds: range) -> dict[Way, tuple]:
+    """(vehicles, seconds lost, metres of the queue on the worst of its lanes) of each movement."""
+    layout, lanes = layout_of(network.net), defaultdict(set)
+    for one in ElementTree.parse(network.net).getroot().iter("connection"):
+        lanes[one.get("from"), one.get("to")].add(int(one.get("fromLane")))
+    by_lane = defaultdict(list)
+    for one in ElementTree.parse(jams).getroot():
+        if int(float(one.get("begin"))) in seconds:
+            by_lane[one.get("id")].append(float(one.get("maxJamLengthInMeters")))
+    found = {}
+    for (edge, target), values in lost_between(ways, layout, seconds).items():
+        paths = [layout.lanes[edge][lane] for lane in sorted(lanes[edge, target])] if edge in layout.lit else []
+        queues = [percentile(whole_jams(path, by_lane, layout), 0.95) for path in paths]
+        found[edge, target] = len(values), fmean(values), max(queues, default=0.0)
+    return found
+
+
+def movements_here(network: MadeNetwork, seeds: Sequence[int], args: argparse.Namespace) -> list[dict[Way, Measured]]:
+    """Our runs, by the rows of their tables."""
+    files = [network.net, *network.additional, "--routes", *network.routes, *network.words]
+    words = ["--until", LAST, "--junctions", LAST - FIRST, "--every", 0, "--seeds", f"{seeds[0]}-{seeds[-1]}"]
+    rows.run_files(network.folder, files, [*words, "--departures", "listed", "--jobs", 1], args.program, args.tools)
+    found = [movements_of(network.folder / f"out/seed-{seed}") for seed in seeds]
+    shutil.rmtree(network.folder / "out")
+    return found
+
+
+def movements_of(folder: Path) -> dict[Way, Measured]:
+    """The movements of a run from FIRST on."""
+    found = {}
+    for row in read_table(str(folder / "movements.csv"), MOVEMENTS):
+        if int(row["begin"]) == FIRST:
+            values = int(row["vehicles"]), float(row["control_delay_s"]), float(row["queue_95_m"] or 0)
+            found[row["approach"], row["to"]] = Measured(*values, float(row["v_c"]), row["doubt"])
+    return found
+
+
+def compared_movements(network: MadeNetwork, args: argparse.Namespace) -> Iterator[Compared]:
+    """The movements of a network that are compared, in the mean of the runs."""
+    theirs = [movements_in_sumo(network, seed) for seed in args.runs]
+    ours, alone = movements_here(network, args.runs, args), lone_losses(network)
+    least = HOURLY * (LAST - FIRST) / 3600
+    for way in sorted(set.intersection(*(set(side) for side in [*theirs, *ours]))):
+        sides = [[side[way] for side in those] for those in (theirs, ours)]
+        if fmean(movement.vehicles for movement in sides[0]) < least:
+            continue
+        delays, queues = [[fmean(getattr(movement, name) for movement in side) for side in sides] for name in MEASURES]
+        doubts = [movement.doubt for movement in sides[1] if movement.doubt]
+        doubt = doubts[0] if 2 * len(doubts) >= len(args.runs) else ""
+        theirs_here = (max(0.0, delays[0] - alone[way]), queues[0]), (delays[1], queues[1])
+        yield Compared(network.name, " to ".join(way), *theirs_here, doubt, fmean(row.ratio for row in sides[1]))
+
+
+# ---- works on a street at its peak
+
+
+def compared_works(network: MadeNetwork, draws: Random, args: argparse.Namespace) -> Iterator[Compared]:
+    """What works add to the trips of those who pass their edge; nothing where no edge has room for them."""
+    net, through = read_net(network.net), Counter(edge for way in ways_of(network.routes[0]) for edge in way)
+    sizes = ((least, few) for few in EDGE_VEHICLES for least in EDGE_METRES)
+    if not (able := next(filter(None, (edges_for(net, through, *size) for size in sizes)), [])):
+        return
+    edge = max(able, key=lambda one: (through[one.getID()], one.getID()))
+    begin = draws.randrange(40, int(edge.getLength()) - WORKS_METRES - 20)
+    works = Stretch(edge.getID(), draws.randrange(edge.getLaneNumber()), begin, begin + WORKS_METRES, FIRST // 2, LAST)
+    case = Case(network.folder, network.net, tuple(network.routes), tuple(network.additional), LAST + FIRST)
+    passing = {car for car, way in ways_by_car(network.routes[0]) if edge.getID() in way}
+    joint, added, doubt = f"{works.edge}_{works.lane}", [], ""
+    for side in (in_sumo, lambda *asked: run_here(*asked, args.program, joint)):
+        with_works, without = (
+            [side(case, closed, seed, label) for seed in args.runs]
+            for closed, label in ((works, "works"), (None, "none"))
+        )
+        means = (
+            fmean(mean_trip(seen, works.first, LAST, case.until, passing) for seen in some)
+            for some in (with_works, without)
+        )
+        first, second = means
+        added.append((first - second, 0.0))
+        doubt = next((seen.doubt for seen in with_works if WORKS_DOUBTED in seen.doubt), "")
+    yield Compared(network.name, f"works on {works.closing()}", added[0], added[1], doubt)
+
+
+def ways_by_car(routes: Path) -> Iterator[tuple[str, list[str]]]:
+    """(vehicle, edges of its way) of each vehicle."""
+    for one in ElementTree.parse(routes).iter("vehicle"):
+        yield one.get("id"), one.find("route").get("edges").split()
+
+
+# ---- the measurement
+
+
+def all_compared(args: argparse.Namespace, folder: Path) -> Iterator[Compared]:
+    """What is compared on each network of the seed, which is told when it is done."""
+    draws = Random(f"doubted rows {args.seed}")
+    drawn = [(draws.randrange(1000, 100_000), round(draws.uniform(*LEVELS), 2)) for _ in range(args.networks)]
+    for at, (seed, level) in enumerate(drawn):
+        works = at % WORKS_EVERY == WORKS_EVERY - 1
+        if at + 1 in args.part:
+            kind, share = ("street", WORKS_LEVEL) if works else ("lone-light", level)
+            network = make(kind, seed, folder, share, seconds=LAST)
+            own = Random(f"works {seed}")
+            found = list(compared_works(network, own, args) if works else compared_movements(network, args))
+            yield from found
+            print(f"{network.name}-{share}: {tally_told(found)}", flush=True)
+            for one in found if args.all else ():
+                print(f"    {row_told(one)}", flush=True)
+
+
+def row_told(one: Compared) -> str:
+    """A row in words: seconds and metres in SUMO and here, v/c here."""
+    sides = ", ".join(f"{a:.0f} / {b:.0f} {unit}" for a, b, unit in zip(one.theirs, one.ours, ("s", "m"), strict=True))
+    marks = f"{', far' if one.is_far else ''}{f'; doubted: {one.doubt}' if one.doubt else ''}"
+    return f"{one.name}: {sides}, v/c {one.ratio:.2f}{marks}"
+
+
+def tally_told(found: Sequence[Compared]) -> str:
+    """How many are far and near, and how many of these are doubted."""
+    count = Counter((one.is_far, bool(one.doubt)) for one in found)
+    far, near = (count[is_far, True] + count[is_far, False] for is_far in (True, False))
+    return f"{far} far, of these undoubted {count[True, False]}; {near} near, of these doubted {count[False, True]}"
+
+
+def main_doubted_rows(argv: list[str]) -> int | None:
+    """Whether rows that are far from SUMO's are doubted, and those that are near are not.
+
+    Takes a minute a network; needs sumo, sumo-tools.
+
+    Lone lights with pockets at 0.45 to 1.0 of the capacity, and each fourth network a street with works of half an hour
+    on its busiest edge. Rows are movements of 20 vehicles an hour and more, from 1,350 to 2,700 s. One is far where its
+    delay is more than 25 % and 10 s off SUMO's, or its 95 % queue more than 40 % and 30 m; and works, where what they
+    add to trips is. What SUMO wrote is kept in the folder of --work.
+    """
+    parser = rows.parser_of(main_doubted_rows, "1-2")
+    parser.add_argument("--networks", default=30, type=int, help="how many")
+    parser.add_argument("--part", default="1-30", type=shared.numbers, help="which of them")
+    parser.add_argument("--all", action="store_true", help="also each row")
+    args = parser.parse_args(argv)
+    print(f"all: {tally_told(list(all_compared(args, shared.work_of(args))))}")
+
+
+# ---- what a page of two plans says first
+
+VERDICT = re.compile('<p class="verdict">(Better|Worse|Undecided)')
+
+
+def first_word(base: MadeNetwork, variant: MadeNetwork, args: argparse.Namespace) -> str:
+    """What the page of a plan in the place of another says first: Better, Worse or Undecided."""
+    folders = []
+    for network, name in ((base, "base"), (variant, "variant")):
+        files = [network.net, *network.additional, "--routes", *network.routes]
+        run([args.tools / "streetsim-import", *files, "-o", "run.jsonl", "--map", "run.map.json"], network.folder)
+        words = ["run.jsonl", "--map", "run.map.json", "--until", network.seconds, "--junctions", 900, "--every", 0]
+        words += ["--seeds", f"{args.runs[0]}-{args.runs[-1]}", "--departures", "listed", "--jobs", 1, "--force"]
+        run([args.tools / "streetsim-run", *words, "--program", args.program, "--out", name], network.folder)
+        folders.append(network.folder / name)
+    run([args.tools / "streetsim-report", *folders, "--short", "-o", "page.html"], variant.folder)
+    found = VERDICT.search((variant.folder / "page.html").read_text(encoding="utf-8"))
+    return found[1] if found else "nothing"
+
+
+def main_first_sentences(argv: list[str]) -> int | None:
+    """Whether what a page of two plans says first is what SUMO says.
+
+    Takes minutes a pair; needs sumo, sumo-tools.
+
+    Lone lights, with another cycle or other greens. A first word is right where the mean trip changes that way in SUMO,
+    in the mean of the seeds, or where it is undecided. What SUMO wrote is kept in the folder of --work.
+    """
+    parser = rows.parser_of(main_first_sentences, "1-5")
+    parser.add_argument("--networks", default=20, type=int, help="how many")
+    parser.add_argument("--part", default="1-20", type=shared.numbers, help="which of them")
+    args, right = parser.parse_args(argv), Counter[bool]()
+    draws, folder = Random(f"first sentences {args.seed}"), shared.work_of(args)
+    drawn = [(draws.randrange(1000, 100_000), round(draws.uniform(*LEVELS), 2), draws.choice(("cycle", "split")))
+             for _ in range(args.networks)]  # fmt: skip
+    for at in args.part:
+        seed, level, case = drawn[at - 1]
+        base = make("lone-light", seed, folder, level, seconds=LAST)
+        variant = variant_of(base, case)
+        sides = [[fmean(b - a for a, b in lit.in_sumo(one, run_seed).trips.values()) for run_seed in args.runs]
+                 for one in (base, variant)]  # fmt: skip
+        change, said = fmean(sides[1]) - fmean(sides[0]), first_word(base, variant, args)
+        is_right = said == "Undecided" or (said == "Better") == (change < 0)
+        right[is_right] += 1
+        print(f"{base.name}-{level}, {case}: SUMO {change:+.1f} s, {said}{'' if is_right else ': wrong'}", flush=True)
+    print(f"right: {right[True]} of {right.total()}")
+
+
+# ---- what SUMO's side of tests is
+
+STORED = shared.SAMPLES / "decides.json"
+OFFICE_SECONDS = range(27_000, 28_800)
+POCKETS = {64_231: 0.6}  # lone lights of these seeds, and their levels
+
+
+def office(folder: Path, plan: int) -> MadeNetwork:
+    """The office's junction with a plan, as a made network."""
+    made = MadeNetwork(folder / f"office-{plan}", "office", plan, 0.0, 6157, seconds=OFFICE_SECONDS.stop)
+    made.folder.mkdir(parents=True, exist_ok=True)
+    made.net.write_bytes(gzip.decompress((shared.SAMPLES / "office.net.xml.gz").read_bytes()))
+    made.routes[0].write_bytes(gzip.decompress((shared.SAMPLES / "office.rou.xml.gz").read_bytes()))
+    put_programs(made.net, programs_of(shared.SAMPLES / f"office-{plan}.add.xml"))
+    return made
+
+
+def stored_case(network: MadeNetwork, seconds: range, seeds: Sequence[int]) -> dict[str, object]:
+    """SUMO's numbers of a network: vehicles, delay and queue of each movement in some seconds, by seed."""
+    by_seed, alone = {}, lone_losses(network)
+    for seed in seeds:
+        found = movements_in_sumo(network, seed, seconds)
+        by_seed[str(seed)] = {
+            " ".join(way): [one.vehicles, round(max(0.0, one.delay - alone[way]), 1), round(one.queue, 1)]
+            for way, one in sorted(found.items())
+        }
+    return {"seconds": [seconds.start, seconds.stop], "movements": by_seed}
+
+
+WORKS_CLOSED, WORKS_SECONDS = "A1A2w_0", (25_200, 36_000)
+
+
+def stored_works(folder: Path, seeds: Sequence[int]) -> dict[str, dict[str, float]]:
+    """SUMO's mean trips, with the wait to enter, of a street without and with a lane closed for three hours, by
+    seed."""
+    begin, end = WORKS_SECONDS
+    closing, closed = f'<closingLaneReroute id="{WORKS_CLOSED}" disallow="all"/>', folder / "closed.add.xml"
+    interval = f'<interval begin="{begin}" end="{end}">{closing}</interval>'
+    rerouter = f'<rerouter id="r" edges="A0A1 A1A2">{interval}</rerouter>'
+    closed.write_text(f"<additional>{rerouter}</additional>", encoding="utf-8")
+    mean_trips: dict[str, dict[str, float]] = {"without": {}, "with": {}}
+    files = [shared.SAMPLES / "works.net.xml.gz", "-r", shared.SAMPLES / "works.rou.xml.gz", "--begin", begin - 3600]
+    for name, more in (("without", []), ("with", ["-a", closed])):
+        for seed in seeds:
+            trips = rows.sumo_trips(folder / f"{name}-{seed}.xml", ["-n", *files, *more, "--seed", seed])
+            times = read_tripinfo(str(trips)).values()
+            mean_trips[name][str(seed)] = round(fmean(arrival - depart for depart, arrival in times), 1)
+    return mean_trips
+
+
+def main_stored_rows(argv: list[str]) -> int | None:
+    """What the tests of doubts at their places compare with: SUMO's delays and queues by seed.
+
+    Takes minutes; needs sumo, sumo-tools.
+
+    It writes decides.json of the tests' data: of the office's junction with both plans, of a drawn lone light with
+    pockets, and of a street with works.
+    """
+    parser = shared.parser_of(main_stored_rows, program=False, work=True)
+    parser.add_argument("--seeds", default="1-3", type=shared.numbers)
+    shared.add_some(parser, "--only", ("office", "pocket", "works"))
+    args = parser.parse_args(argv)
+    folder, cases = shared.work_of(args), json.loads(STORED.read_text("utf-8")) if STORED.exists() else {}
+    for plan in (90, 75) if "office" in args.only else ():
+        cases[f"office-{plan}"] = stored_case(office(folder, plan), OFFICE_SECONDS, args.seeds)
+    for seed, level in POCKETS.items() if "pocket" in args.only else ():
+        network = make("lone-light", seed, folder, level, seconds=LAST)
+        cases["pocket"] = stored_case(network, SECONDS, args.seeds)
+        for source, name in ((network.net, "pocket.net.xml.gz"), (network.routes[0], "pocket.rou.xml.gz")):
+            (shared.SAMPLES / name).write_bytes(gzip.compress(source.read_bytes(), 9, mtime=0))
+    if "works" in args.only:
+        cases["works"] = stored_works(folder, args.seeds)
+    STORED.write_text(json.dumps(cases, indent=1, sort_keys=True) + "\n", encoding="utf-8")

@@ -1,0 +1,149 @@
+"""Which of the parallel links of its edges a vehicle takes: those that cost least by what they carry so far."""
+from __future__ import annotations
+
+from collections import Counter, defaultdict
+from collections.abc import Container, Iterable, Mapping, Sequence
+from dataclasses import dataclass, field
+from itertools import pairwise
+
+from streetsim.model.waiting import TurnKey
+from streetsim.sumo.crossing import EdgePair
+from streetsim.sumo.links import Link
+
+MISSING_TURN = 0.5  # what a change between parallel links costs that SUMO has no connection for
+WRONG_LANE = 100.0  # the same from lanes that do not lead to an edge to which others wait for a gap
+OTHERS_LANE = 0.3  # the same of lanes that are open to more classes than others of the edge, where one may use both
+CROWDING = 0.2  # what a link costs each of whose lanes carries as much as its edge's links do on average
+CROWDING_BESIDE = 2.0  # the same where links of an edge lead to a common one and on some of them vehicles wait for gaps
+
+
+@dataclass(slots=True, eq=False)
+class OpenLinks:
+    """The links of an edge that are open to a class."""
+
+    edge: str
+    links: Sequence[tuple[int, int, float]]  # rising; their lanes, and what each costs for those whom it is not for
+    beside: Sequence[int]  # all links of the edge
+    weight: float  # what a link costs that carries the mean of these
+    steps: dict[OpenLinks, Step] = field(default_factory=dict)  # to open links of next edges
+
+
+@dataclass(slots=True, eq=False)
+class Step:
+    """From the open links of an edge to those of the next one."""
+
+    costs: Sequence[Sequence[float]]  # by link of the next edge, then by link of this one
+    vehicles: float  # in how many others' place one counts here
+
+
+class LinkChoice:
+    """The costs of links, by the vehicles that they carry so far."""
+
+    def __init__(
+        self, links: Sequence[Link], links_of: Mapping[str, Sequence[int]], users: Sequence[frozenset[str] | None],
+        connected: Container[EdgePair], waiting: set[EdgePair], turns: Iterable[TurnKey],
+    ) -> None:  # fmt: skip
+        """links, links_of (by edge), users, waiting, turns: of a Network; connected: which edges lead to which."""
+        self.connected = connected
+        self.links, self.links_of, self.users, self.waiting = links, links_of, users, waiting
+        # The lanes of a link that have a turn to a next link, by both; rising.
+        self.lanes_to: defaultdict[tuple[int, int], list[int]] = defaultdict(list)
+        for source, lane, behind in sorted(turns):
+            self.lanes_to[source, behind].append(lane)
+        self.leads = {(link, links[following].edge) for link, _, following in turns}
+        targets = Counter((links[link].edge, target) for link, target in self.leads)
+        shared = {edge for (edge, _), count in targets.items() if count > 1}  # several links lead to one next edge
+        self.unlike = shared & {edge for edge, _ in waiting}
+        self.use: list[float] = [0] * len(links)  # vehicles that a link carries
+        # (edge, next edge): in how many others' place a vehicle counts that waits for a gap
+        self.weights: Mapping[EdgePair, float] = {}
+        # By class, and where it must go over one link this one, then by edge.
+        self.open_by_class: defaultdict[tuple[str, int | None], dict[str, OpenLinks]] = defaultdict(dict)
+
+    def open_links(self, edges: Iterable[str], vclass: str, only: int | None = None) -> list[OpenLinks]:
+        """The links of some edges that are open to a class; only: the one over which it must go, else all of them."""
+        by_edge = self.open_by_class[vclass, only]
+        for edge in edges:
+            if edge not in by_edge:
+                by_edge[edge] = self.found_links(edge, vclass, only)
+        return [by_edge[edge] for edge in edges]
+
+    def found_links(self, edge: str, vclass: str, only: int | None) -> OpenLinks:
+        """What open_links gives of an edge."""
+        open_links = [
+            (link, len(self.links[link].lanes), 0.0 if users is None or vclass in users else OTHERS_LANE)
+            for link in (self.links_of[edge] if only is None else [only])
+            for users in (self.users[link],)
+            if vclass not in self.links[link].closed
+        ]
+        weight = CROWDING_BESIDE if edge in self.unlike else CROWDING
+        return OpenLinks(edge, open_links, self.links_of[edge], weight)
+
+    def steps_of(self, ways: Sequence[OpenLinks]) -> list[Step] | None:
+        """The steps from each of a vehicle's edges to the next; None where two edges have no connection."""
+        steps = (some.steps.get(following) or self.step(some, following) for some, following in pairwise(ways))
+        connected = [step for step in steps if step is not None]
+        return connected if len(connected) == len(ways) - 1 else None
+
+    def step(self, open_links: OpenLinks, following: OpenLinks) -> Step | None:
+        """The step from one edge to the next; None where they have no connection."""
+        pair = open_links.edge, following.edge
+        if pair not in self.connected:
+            return None
+        costs = [[self.change_cost(link, to) for link, *_ in open_links.links] for to, *_ in following.links]
+        found = open_links.steps[following] = Step(costs, self.weights.get(pair, 1))
+        return found
+
+    def forget_steps(self, edge: str, next_edge: str) -> None:
+        """Forgets what steps between two edges cost, between which there are new turns."""
+        by_class = self.open_by_class.values()
+        for open_links in filter(None, [by_edge.get(edge) for by_edge in by_class]):
+            for following in filter(None, [by_edge.get(next_edge) for by_edge in by_class]):
+                open_links.steps.pop(following, None)
+
+    def change_cost(self, link: int, following: int) -> float:
+        """The cost of going from a link to a next one to which it has no turn; 0 where it has one, added or not."""
+        if (link, following) in self.lanes_to:
+            return 0.0
+        edge, target = self.links[link].edge, self.links[following].edge
+        wrong = (edge, target) in self.waiting and (link, target) not in self.leads
+        return WRONG_LANE if wrong else MISSING_TURN
+
+    def cheapest(self, ways: Sequence[OpenLinks], steps: Sequence[Step]) -> tuple[int, ...]:
+        """The links of least cost, one for each of a vehicle's edges; of equal ones the first in order. What a link
+        costs is what each of its lanes carries so far, against the mean of its edge's links, and more where it is open
+        to more classes than others of the edge. steps: of `ways`."""
+        if all([len(edge_links.links) == 1 for edge_links in ways]):
+            return tuple([edge_links.links[0][0] for edge_links in ways])
+        use, costs, orders = self.use, [0.0], [0]
+        places_before: list[list[int]] = []  # by edge and link the place of the best link of the edge before
+        for edge_links, costs_of_changes in zip(ways, [[[0.0]] * len(ways[0].links), *[step.costs for step in steps]]):
+            total = sum([use[link] for link in edge_links.beside])
+            weight, count = edge_links.weight, len(edge_links.beside)
+            own_costs: list[float] = []
+            own_orders: list[int] = []
+            places: list[int] = []
+            for (link, lanes, extra), changes in zip(edge_links.links, costs_of_changes):
+                own = weight * use[link] / lanes * count / total + extra if total else extra
+                cost, place = costs[0] + own + changes[0], 0
+                for at in range(1, len(costs)):
+                    other = costs[at] + own + changes[at]
+                    if other < cost or other == cost and orders[at] < orders[place]:
+                        cost, place = other, at
+                own_costs.append(cost)
+                own_orders.append(len(edge_links.links) * orders[place] + len(places))
+                places.append(place)
+            costs, orders = own_costs, own_orders
+            places_before.append(places)
+        best = min(range(len(costs)), key=lambda place: (costs[place], orders[place]))
+        return links_back(ways, places_before, best)
+
+
+def links_back(ways: Sequence[OpenLinks], places_before: Sequence[Sequence[int]], last: int) -> tuple[int, ...]:
+    """The links of a plan, by the place of its last link among those of its edge. places_before: by edge and link the
+    place of the link before it."""
+    plan, place = [], last
+    for edge_links, places in zip(reversed(ways), reversed(places_before)):
+        plan.append(edge_links.links[place][0])
+        place = places[place]
+    return tuple(plan[::-1])
