@@ -232,7 +232,8 @@ class WhichProgram(Case):
         with open(copy, "ab") as file:
             file.write(MARK)
         self.assertEqual((is_marked(copy), is_marked(other), is_marked("none")), (True, False, False))
-        with redirect_stderr(StringIO()) as said:
+        with patch.dict(sys.modules), redirect_stderr(StringIO()) as said:
+            sys.modules.pop("streetsim.cli.commands", None)  # as in a script
             self.assertEqual((find_program(copy), find_program(copy), find_program(other)), (copy, copy, other))
         first, second = said.getvalue().splitlines()
         self.assertIn("NOT PROVED", first)

@@ -1,7 +1,7 @@
 """What a large demand takes: memory of the import and of the run with all tables, by vehicle."""
 import csv
-import os
 import subprocess
+import sys
 import unittest
 from itertools import pairwise
 
@@ -11,6 +11,12 @@ STREETS, VEHICLES, EVERY = 40, 200_000, 3  # seconds between two on a street of 
 # Bytes by vehicle: 2 GB and 1.5 GB of a million.
 IMPORT_BYTES, RUN_BYTES = 2000, 1500
 BEGUN = 120 << 20  # bytes of a command before it has read any vehicle
+# Runs a command and prints the KiB that it took at most. In a small process: what begins a process counts in its peak.
+MEASURED = """
+import resource, subprocess, sys
+subprocess.run(sys.argv[1:], stdout=subprocess.DEVNULL, stderr=subprocess.DEVNULL, check=True)
+print(resource.getrusage(resource.RUSAGE_CHILDREN).ru_maxrss)
+"""
 
 
 class Large(Case):
@@ -32,12 +38,9 @@ class Large(Case):
 
     def most_bytes(self, name, *words):
         """The greatest memory of a command, which succeeds."""
-        command, silent = [TOOLS / f"streetsim-{name}", *words], subprocess.DEVNULL
-        process = subprocess.Popen(command, stdout=silent, stderr=silent, cwd=self.folder)
-        _, status, usage = os.wait4(process.pid, 0)
-        process.returncode = os.waitstatus_to_exitcode(status)
-        self.assertEqual(process.returncode, 0)
-        return usage.ru_maxrss * 1024
+        command = [sys.executable, "-c", MEASURED, TOOLS / f"streetsim-{name}", *words]
+        ended = subprocess.run(command, capture_output=True, text=True, cwd=self.folder, check=True)
+        return int(ended.stdout) * 1024
 
     @needs_simulator
     def test_memory_of_many_vehicles(self):

@@ -3,15 +3,17 @@ their exceptions for its own."""
 import os
 import signal
 import subprocess
+import sys
 import time
 import unittest
 from contextlib import redirect_stderr
 from io import StringIO
+from unittest.mock import patch
 
 from support import TOOLS, Case
 from test_install import COMMANDS
 
-from streetsim.base.files import RECEIVED_SIGNALS, end_again, end_by_signal, interrupt, status_of
+from streetsim.base.files import RECEIVED_SIGNALS, end_again, end_by_signal, status_of, tell_dropped
 
 # In the place of a module that all commands read: it says that it is read, and waits.
 SLOW = """import time
@@ -80,7 +82,7 @@ class Asked(Case):
             except BaseException:
                 raise ValueError("wrong setting") from None
 
-        before = signal.signal(signal.SIGINT, interrupt)
+        before = signal.signal(signal.SIGINT, end_by_signal)
         self.addCleanup(signal.signal, signal.SIGINT, before)
         self.addCleanup(RECEIVED_SIGNALS.clear)
         with redirect_stderr(StringIO()) as said:
@@ -96,31 +98,46 @@ class Asked(Case):
             status_of(lambda _: int("wrong"))
 
     def test_an_end_that_got_lost_comes_again(self):
-        """As where Python forgets a module's lock, and drops what is raised meanwhile. What cleans up after the signal
-        is left alone, however long it takes."""
-        ended = []
+        """As where Python forgets a module's lock, and drops what is raised meanwhile, of which nothing is said. What
+        cleans up after the signal is left alone, however long it takes."""
+        for number, status, name in ((signal.SIGTERM, 143, "SIGTERM"), (signal.SIGINT, 130, "Ctrl-C")):
+            with self.subTest(name):
+                ended = []
 
-        class Lost:
+                class Lost:
+                    def __del__(self):
+                        signal.raise_signal(number)
+
+                def main(_):
+                    Lost()
+                    try:
+                        time.sleep(60)
+                    finally:
+                        time.sleep(0.7)
+                        ended.append("cleaned up")
+
+                for one, how in ((number, end_by_signal), (signal.SIGALRM, end_again)):
+                    self.addCleanup(signal.signal, one, signal.signal(one, how))
+                self.addCleanup(RECEIVED_SIGNALS.clear)
+                begin = time.monotonic()
+                with redirect_stderr(StringIO()) as said, patch.object(sys, "unraisablehook", tell_dropped):
+                    try:
+                        left = status_of(main)
+                    except SystemExit as raised:
+                        left = raised.code
+                self.assertEqual((left, ended), (status, ["cleaned up"]))
+                self.assertLess(time.monotonic() - begin, 10)
+                self.assertEqual(said.getvalue().partition(": ")[2], f"ended by {name}: nothing was written\n")
+                RECEIVED_SIGNALS.clear()
+
+    def test_what_else_is_dropped_is_told(self):
+        class Wrong:
             def __del__(self):
-                signal.raise_signal(signal.SIGTERM)
+                raise ValueError("wrong setting")
 
-        def main(_):
-            Lost()
-            try:
-                time.sleep(60)
-            finally:
-                time.sleep(0.7)
-                ended.append("cleaned up")
-
-        for number, how in ((signal.SIGTERM, end_by_signal), (signal.SIGALRM, end_again)):
-            self.addCleanup(signal.signal, number, signal.signal(number, how))
-        self.addCleanup(RECEIVED_SIGNALS.clear)
-        begin = time.monotonic()
-        with redirect_stderr(StringIO()) as said, self.assertRaises(SystemExit) as raised:
-            status_of(main)
-        self.assertEqual((raised.exception.code, ended), (143, ["cleaned up"]))
-        self.assertLess(time.monotonic() - begin, 10)
-        self.assertIn(": ended by SIGTERM: nothing was written\n", said.getvalue())
+        with redirect_stderr(StringIO()) as said, patch.object(sys, "unraisablehook", tell_dropped):
+            Wrong()
+        self.assertIn("ValueError: wrong setting", said.getvalue())
 
 
 if __name__ == "__main__":

@@ -429,26 +429,44 @@ RECEIVED_SIGNALS: list[int] = []
 
 
 def end_by_signal(number: int, _frame: FrameType | None) -> NoReturn:
-    """Handles a signal: ends the tool by SystemExit, with status 128 + number, so that nothing half-written is left."""
+    """Handles a signal: ends the tool by an exception, so that nothing half-written is left: KeyboardInterrupt for
+    Ctrl-C, else SystemExit with status 128 + number."""
     RECEIVED_SIGNALS.append(number)
     signal.setitimer(signal.ITIMER_REAL, AGAIN, AGAIN)
+    raise_end(number)
+
+
+def raise_end(number: int) -> NoReturn:
+    """Raises the exception by which a signal ends the tool."""
+    if number == signal.SIGINT:
+        raise KeyboardInterrupt
     sys.exit(128 + number)
 
 
 def end_again(_number: int, _frame: FrameType | None) -> None:
-    """Handles the timer that end_by_signal has set: raises its SystemExit again where that got lost, as Python drops
-    what is raised while it forgets an object; leaves it alone where it is on its way, through what cleans up."""
+    """Handles the timer that end_by_signal has set: raises the first signal's exception again where that got lost, as
+    Python drops what is raised while it forgets an object; leaves it alone where it is on its way, through what cleans
+    up."""
     fault = sys.exc_info()[1]
-    while fault and not isinstance(fault, SystemExit):
+    while fault and not isinstance(fault, KeyboardInterrupt | SystemExit):
         fault = fault.__context__
     if not fault:
-        sys.exit(128 + RECEIVED_SIGNALS[0])
+        raise_end(RECEIVED_SIGNALS[0])
 
 
-def interrupt(number: int, _frame: FrameType | None) -> NoReturn:
-    """Handles Ctrl-C: ends the tool by KeyboardInterrupt, so that nothing half-written is left."""
-    RECEIVED_SIGNALS.append(number)
-    raise KeyboardInterrupt
+@contextlib.contextmanager
+def until_interrupted() -> Iterator[None]:
+    """Runs the block until it is done or Ctrl-C ends it, and no more than it."""
+    try:
+        yield
+    except KeyboardInterrupt:
+        signal.setitimer(signal.ITIMER_REAL, 0)
+
+
+def tell_dropped(dropped: "sys.UnraisableHookArgs") -> None:
+    """Tells of an exception that Python drops, but for that of a signal, which end_again raises again."""
+    if not (RECEIVED_SIGNALS and issubclass(dropped.exc_type, KeyboardInterrupt | SystemExit)):
+        sys.__unraisablehook__(dropped)
 
 
 KEPT_NOTES: list[str] = []  # what is kept, in words, of a tool that a signal ends, beside what was there before
@@ -472,6 +490,7 @@ def run_tool(main: Main) -> NoReturn:
         if signal.getsignal(number) is not signal.SIG_IGN:
             signal.signal(number, end_by_signal)
     signal.signal(signal.SIGALRM, end_again)
+    sys.unraisablehook = tell_dropped
     status = status_of(main)
     for number in END_SIGNALS:
         signal.signal(number, signal.SIG_IGN)

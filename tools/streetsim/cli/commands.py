@@ -51,7 +51,7 @@ def run_command(module: str, package: str = "cli") -> "NoReturn":
         if signal.getsignal(number) is not signal.SIG_IGN:
             signal.signal(number, end_at_once)
     signal.pthread_sigmask(signal.SIG_UNBLOCK, (*END_SIGNALS, signal.SIGINT))  # which the script held back
-    from streetsim.base.files import interrupt, run_tool
+    from streetsim.base.files import end_by_signal, run_tool
     from streetsim.base.program import tell_at_end
     from streetsim.cli.defaults import tell_completed
 
@@ -61,7 +61,7 @@ def run_command(module: str, package: str = "cli") -> "NoReturn":
         """Takes Ctrl-C over, runs the tool, and says where it wrote what no word named, and whether its program is not
         known to be proved; gives its status."""
         if hears:
-            signal.signal(signal.SIGINT, interrupt)
+            signal.signal(signal.SIGINT, end_by_signal)
         status = main(arguments)
         tell_completed()
         tell_at_end()

@@ -1,13 +1,12 @@
 """Serves the page of streetsim-live, by its parsed arguments."""
 import argparse
-import contextlib
 import sys
 import webbrowser
 from functools import partial
 from pathlib import Path
 
 from streetsim.base import limits
-from streetsim.base.files import Fault, refuse_equal
+from streetsim.base.files import Fault, refuse_equal, until_interrupted
 from streetsim.base.program import find_program
 from streetsim.base.words import names_in
 from streetsim.cli.defaults import complete_run
@@ -36,7 +35,7 @@ def serve(bridge: Bridge, opens: bool) -> None:
     print(f"{bridge.address}\n(on this machine alone, for one page at a time; Ctrl-C ends)", flush=True)
     if opens:
         webbrowser.open(bridge.address)
-    with contextlib.suppress(KeyboardInterrupt):
+    with until_interrupted():
         bridge.serve_forever()
 
 
