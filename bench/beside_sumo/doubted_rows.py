@@ -2,7 +2,6 @@
 are not; on lone lights and on streets with works, as a seed draws them."""
 
 import argparse
-import gzip
 import json
 import re
 import shutil
@@ -18,13 +17,11 @@ import shared
 from beside_sumo import lit, rows
 from beside_sumo.lit import layout_of, lone_losses, lost_between, variant_of, whole_jams, write_queues
 from beside_sumo.rows import Way
-from networks.lit_streets import programs_of, put_programs
 from networks.unseen import MadeNetwork, make, read_net, ways_of
 from planners.works import EDGE_METRES, EDGE_VEHICLES, Case, Stretch, edges_for, in_sumo, mean_trip, run_here
 from shared import run
 from streetsim.model.service import percentile
 from streetsim.model.tables import MOVEMENTS, read_table
-from streetsim.report.beside_sumo import read_tripinfo
 
 FIRST, LAST = 1350, 2700  # seconds between which movements are compared; the demand begins at 0 and ends at LAST
 SECONDS = range(FIRST, LAST)
@@ -270,78 +267,3 @@ def main_first_sentences(argv: list[str]) -> int | None:
         right[is_right] += 1
         print(f"{base.name}-{level}, {case}: SUMO {change:+.1f} s, {said}{'' if is_right else ': wrong'}", flush=True)
     print(f"right: {right[True]} of {right.total()}")
-
-
-# ---- what SUMO's side of tests is
-
-STORED = shared.SAMPLES / "decides.json"
-OFFICE_SECONDS = range(27_000, 28_800)
-POCKETS = {64_231: 0.6}  # lone lights of these seeds, and their levels
-
-
-def office(folder: Path, plan: int) -> MadeNetwork:
-    """The office's junction with a plan, as a made network."""
-    made = MadeNetwork(folder / f"office-{plan}", "office", plan, 0.0, 6157, seconds=OFFICE_SECONDS.stop)
-    made.folder.mkdir(parents=True, exist_ok=True)
-    made.net.write_bytes(gzip.decompress((shared.SAMPLES / "office.net.xml.gz").read_bytes()))
-    made.routes[0].write_bytes(gzip.decompress((shared.SAMPLES / "office.rou.xml.gz").read_bytes()))
-    put_programs(made.net, programs_of(shared.SAMPLES / f"office-{plan}.add.xml"))
-    return made
-
-
-def stored_case(network: MadeNetwork, seconds: range, seeds: Sequence[int]) -> dict[str, object]:
-    """SUMO's numbers of a network: vehicles, delay and queue of each movement in some seconds, by seed."""
-    by_seed, alone = {}, lone_losses(network)
-    for seed in seeds:
-        found = movements_in_sumo(network, seed, seconds)
-        by_seed[str(seed)] = {
-            " ".join(way): [one.vehicles, round(max(0.0, one.delay - alone[way]), 1), round(one.queue, 1)]
-            for way, one in sorted(found.items())
-        }
-    return {"seconds": [seconds.start, seconds.stop], "movements": by_seed}
-
-
-WORKS_CLOSED, WORKS_SECONDS = "A1A2w_0", (25_200, 36_000)
-
-
-def stored_works(folder: Path, seeds: Sequence[int]) -> dict[str, dict[str, float]]:
-    """SUMO's mean trips, with the wait to enter, of a street without and with a lane closed for three hours, by
-    seed."""
-    begin, end = WORKS_SECONDS
-    closing, closed = f'<closingLaneReroute id="{WORKS_CLOSED}" disallow="all"/>', folder / "closed.add.xml"
-    interval = f'<interval begin="{begin}" end="{end}">{closing}</interval>'
-    rerouter = f'<rerouter id="r" edges="A0A1 A1A2">{interval}</rerouter>'
-    closed.write_text(f"<additional>{rerouter}</additional>", encoding="utf-8")
-    mean_trips: dict[str, dict[str, float]] = {"without": {}, "with": {}}
-    files = [shared.SAMPLES / "works.net.xml.gz", "-r", shared.SAMPLES / "works.rou.xml.gz", "--begin", begin - 3600]
-    for name, more in (("without", []), ("with", ["-a", closed])):
-        for seed in seeds:
-            trips = rows.sumo_trips(folder / f"{name}-{seed}.xml", ["-n", *files, *more, "--seed", seed])
-            times = read_tripinfo(str(trips)).values()
-            mean_trips[name][str(seed)] = round(fmean(arrival - depart for depart, arrival in times), 1)
-    return mean_trips
-
-
-def main_stored_rows(argv: list[str]) -> int | None:
-    """What the tests of doubts at their places compare with: SUMO's delays and queues by seed.
-
-    Takes minutes; needs sumo, sumo-tools.
-
-    It writes decides.json of the tests' data: of the office's junction with both plans, of a drawn lone light with
-    pockets, and of a street with works.
-    """
-    parser = shared.parser_of(main_stored_rows, program=False, work=True)
-    parser.add_argument("--seeds", default="1-3", type=shared.numbers)
-    shared.add_some(parser, "--only", ("office", "pocket", "works"))
-    args = parser.parse_args(argv)
-    folder, cases = shared.work_of(args), json.loads(STORED.read_text("utf-8")) if STORED.exists() else {}
-    for plan in (90, 75) if "office" in args.only else ():
-        cases[f"office-{plan}"] = stored_case(office(folder, plan), OFFICE_SECONDS, args.seeds)
-    for seed, level in POCKETS.items() if "pocket" in args.only else ():
-        network = make("lone-light", seed, folder, level, seconds=LAST)
-        cases["pocket"] = stored_case(network, SECONDS, args.seeds)
-        for source, name in ((network.net, "pocket.net.xml.gz"), (network.routes[0], "pocket.rou.xml.gz")):
-            (shared.SAMPLES / name).write_bytes(gzip.compress(source.read_bytes(), 9, mtime=0))
-    if "works" in args.only:
-        cases["works"] = stored_works(folder, args.seeds)
-    STORED.write_text(json.dumps(cases, indent=1, sort_keys=True) + "\n", encoding="utf-8")

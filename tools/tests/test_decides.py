@@ -1,12 +1,13 @@
 """What decides, beside SUMO's numbers by seed, which `bench/run stored-rows` wrote: each number is near SUMO's, or
 doubted at its place and on the first page."""
+import gzip
 import json
 import re
 import unittest
 from statistics import fmean
 
-from support import DATA, PROGRAM, Case, lane, needs_simulator, net
-from test_route import Commands, flow
+from support import DATA, PROGRAM, Case, needs_simulator
+from test_route import Commands
 from streetsim.base.report import Report
 from streetsim.model.tables import MOVEMENTS, read_table
 from streetsim.search.signal_plans import additional_of
@@ -108,40 +109,77 @@ class Beside(Case):
         self.assertIn('<p class="verdict">Undecided, as what decides is doubted', first)
         self.assertIn("Doubted most of all: works on A1A2w", first)
 
-
-@needs_simulator
-class Sealed(Case):
     def test_a_plan_of_a_search_that_is_not_to_be_trusted(self):
-        """Who runs it, and who reads the page, is told why."""
-        network, plans = DATA / "office.net.xml.gz", DATA / "office-90.add.xml"
-        net = read_net(str(network), ("passenger",), Report())
-        [light] = net.programs
-        phases = re.findall("<phase [^>]*/>", plans.read_text())
+        """In SUMO it is better; who runs it, and who reads the page, is told why it is doubted, and what is far from
+        SUMO's is doubted at its place."""
+        means = [self.mean_delay(STORED[f"office-{plan}"]) for plan in (90, 75)]
+        self.assertGreater(means[0] - means[1], 5)
+        net = read_net(str(DATA / "office.net.xml.gz"), ("passenger",), Report())
+        [light], phases = net.programs, re.findall("<phase [^>]*/>", (DATA / "office-75.add.xml").read_text())
         programs = [(light, 'type="static" programID="streetsim" offset="0"', phases)]
-        text = additional_of(programs, ["without --verify-sumo"])
-        run, mapped, out = (self.folder / name for name in ("o.jsonl", "o.map.json", "out"))
-        files = network, self.write("plan.add.xml", text), "--routes", DATA / "office.rou.xml.gz"
-        self.tool("import", *files, "-o", run, "--map", mapped)
-        words = "--until", 24_900, "--junctions", 300, "--every", 0, "--out", out, "--program", PROGRAM
+        plan = self.write("plan.add.xml", additional_of(programs, ["without --verify-sumo"]))
+        words = "--until", 28_800, "--junctions", 1800
+        out, last = self.made("s", "office.net.xml.gz", "office.rou.xml.gz", *words, additional=[plan])
         told = "is of a search that is not to be trusted (without --verify-sumo)"
-        self.assertIn(told, self.tool("run", run, "--map", mapped, *words)[0].splitlines()[-1])
+        self.assertIn(told, last)
+        self.assertEqual(self.silent(STORED["office-75"], out)[0], [])
         page = self.folder / "page.html"
-        self.tool("report", out, "-o", page)
+        self.tool("report", out, "--interval", 27_000, "-o", page)
         first = page.read_text().partition('id="junctions"')[0]
         self.assertIn(told, first)
         self.assertIn('<p class="verdict">Undecided', first)
 
 
-class WaysRound(Commands):
-    def test_works_on_a_street_without_another_way(self):
-        """Nobody can go round them, so they gain nothing: the runs without works have the same lanes joint."""
-        ends = {"in": ("W", "A"), "mid": ("A", "B"), "out": ("B", "E")}
-        edges = [(name, *ends[name], [lane(name, at, 400.0) for at in (0, 1)]) for name in ends]
-        ways = [(one, at, other, at, "") for one, other in (("in", "mid"), ("mid", "out")) for at in (0, 1)]
-        self.given(net(edges, ways), flow(150, 600))
-        self.route("--close", "mid_0:100-300:60-900", "--iterations", 2, "--gap", 1, "--knowing", "0", "--seeds", "1-3")
+@needs_simulator
+class Hours(Commands):
+    """A street of two lanes without another way, a lane of which is closed for a quarter of an hour: in SUMO that costs
+    more than half a minute a trip where more than a lane passes come, else 3 s at most."""
+
+    VEHICLES = 900
+    FAR_HOURS = FAR_DELAY[1] * VEHICLES / 3600
+
+    def added(self):
+        """Seconds a trip that works add in SUMO, by the second at which they begin."""
+        means = {name: fmean(by_seed.values()) for name, by_seed in STORED["hours"].items()}
+        return {name: mean - means["without"] for name, mean in means.items() if name != "without"}
+
+    def test_which_hours_for_works(self):
+        """A study names the same hour as the worst, and what each adds is near, or doubted at its place."""
+        run, mapped, out = (self.folder / name for name in ("h.jsonl", "h.map.json", "out"))
+        routes = "--routes", DATA / "hours.rou.xml.gz"
+        self.tool("import", DATA / "hours.net.xml.gz", *routes, "-o", run, "--map", mapped)
+        asked = 'run = "h.jsonl"\nmap = "h.map.json"\nuntil = 5400\nseeds = "1-2"\ndepartures = "listed"\n'
+        variants = '[variant.given]\n[variant.works]\nclose = ["out_0:200-400:0-900"]\n'
+        study = self.write("study.toml", asked + variants)
+        self.tool("study", study, "--program", PROGRAM, "--out", out, "--jobs", 1, "--close-at", "0,900,1800")
+        added = self.added()
+        self.assertEqual([begin for begin, seconds in added.items() if seconds > 3], ["900"])
+        rows = {row["begin"]: row for row in self.table("windows.csv")}
+        self.assertEqual(rows.keys(), added.keys())
+        hours = {begin: float(row["vehicle_hours"]) for begin, row in rows.items()}
+        self.assertEqual(max(hours, key=hours.get), "900")
+        for begin, seconds in added.items():
+            theirs = seconds * self.VEHICLES / 3600
+            is_far = abs(hours[begin] - theirs) > max(FAR_DELAY[0] * theirs, self.FAR_HOURS)
+            self.assertTrue(not is_far or rows[begin]["doubt"], (begin, theirs, hours[begin]))
+
+    def test_nobody_can_go_round(self):
+        """So works gain nothing, as in SUMO: the runs without works have the same lanes joint."""
+        self.net = DATA / "hours.net.xml.gz"
+        self.trips = self.write("x.trips.xml", self.trips_of(DATA / "hours.rou.xml.gz"))
+        close = "--close", "out_0:200-400:900-1800", "--iterations", 2, "--gap", 1, "--knowing", "0", "--seeds", "1-3"
+        told, _ = self.route(*close)
         [row] = [row for row in self.table("knowing.csv") if row["knowing"] == "0"]
-        self.assertGreaterEqual(float(row["difference_s"]), -0.5)
+        here, theirs = float(row["difference_s"]), self.added()["900"]
+        self.assertGreater(here, 0)
+        if abs(here - theirs) > max(FAR_DELAY[0] * theirs, FAR_DELAY[1]):
+            self.assertRegex(told, "not to be trusted: .*works on out")
+
+    def trips_of(self, routes):
+        """The vehicles of a route file as trips."""
+        cars = re.findall('id="(.*?)" depart="(.*?)"', gzip.decompress(routes.read_bytes()).decode())
+        rows = (f'<trip id="{name}" depart="{depart}" from="in" to="out"/>' for name, depart in cars)
+        return f"<routes>{''.join(rows)}</routes>"
 
 
 if __name__ == "__main__":
