@@ -69,7 +69,8 @@ def run_file(file: Path) -> None:
 def outcome_of(file: Path) -> Outcome:
     """Runs the tests of a file in a process of its own, and tells how they went. A process that leaves no outcome
     has failed as a whole."""
-    words, begin = [sys.executable, "-B", Path(__file__), file], time.monotonic()
+    words: list[str | Path] = [sys.executable, "-B", Path(__file__), file]
+    begin = time.monotonic()
     process = subprocess.run(
         words, cwd=file.parent, stdin=subprocess.DEVNULL, stdout=subprocess.PIPE, stderr=subprocess.STDOUT, text=True,
         errors="replace", check=False,

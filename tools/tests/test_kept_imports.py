@@ -1,14 +1,18 @@
-"""Imports that are kept between starts of scripts for TraCI: what is taken, and what is as if it were not there."""
+"""Imports that are kept between two starts: what is taken, and what is as if it were not there."""
 import os
 import unittest
+from contextlib import redirect_stderr
+from io import StringIO
 from pathlib import Path
 from unittest.mock import patch
 
 from support import TOOLS, Case
 
 from streetsim.base.files import Fault
-from streetsim.simulation import kept_imports, opening
-from streetsim.simulation.kept_imports import KeptImport, kept_folder, key_of, read_kept, write_kept
+from streetsim.cli import import_, importing
+from streetsim.model import kept_imports
+from streetsim.model.kept_imports import KeptImport, kept_folder, key_of, read_kept, write_kept
+from streetsim.simulation import opening
 
 CROSS = TOOLS / "examples/actuated"
 NET, ROUTES = str(CROSS / "cross.net.xml.gz"), str(CROSS / "cross.rou.xml")
@@ -49,6 +53,24 @@ class KeptImports(Case):
                 self.imported("fourth")
         self.assertEqual(len(list(self.kept.iterdir())), 1)
         self.assertIn(b'"seed":3', first[1])
+
+    def by_command(self, *words):
+        """(status, what streetsim-import said, its run, its map)."""
+        run, mapping = self.folder / "x.jsonl", self.folder / "x.map.json"
+        with redirect_stderr(StringIO()) as said:
+            status = import_.main([NET, "--routes", ROUTES, "-o", str(run), "--map", str(mapping), *words])
+        return status, said.getvalue(), run.read_bytes(), mapping.read_bytes()
+
+    def test_the_command_takes_a_kept_import_of_equal_words_and_files(self):
+        first = self.by_command("--seed", "3")
+        self.assertIn(" vehicles\n", first[1])
+        with patch.object(importing, "read_and_converted", side_effect=AssertionError("imports")):
+            self.assertEqual(self.by_command("--seed", "3"), first)
+            table = self.folder / "warnings.csv"
+            for words in (["--seed", "4"], ["--seed", "3", "--strict"], ["--seed", "3", "--warnings", str(table)]):
+                with self.subTest(words), self.assertRaisesRegex(AssertionError, "imports"):
+                    self.by_command(*words)
+        self.assertEqual(len(list(self.kept.iterdir())), 1)
 
     def test_what_fails_and_what_is_no_file_is_not_kept(self):
         with self.assertRaises(Fault):

@@ -127,9 +127,9 @@ def add_numbers(tool_parser: argparse.ArgumentParser) -> None:
         )
 
 
-def main(arguments: list[str]) -> int:
+def main(arguments: list[str], keeps: bool = True) -> int:
     """Runs streetsim-import, as import_by says."""
     args, configured = args_and_options(parser(), arguments, "routes")
     from streetsim.cli.importing import import_by  # which loads what imports
 
-    return import_by(args, configured)
+    return import_by(args, configured, keeps)

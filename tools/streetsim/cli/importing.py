@@ -1,14 +1,16 @@
 """Imports SUMO's networks and routes, by the parsed arguments of streetsim-import; and the options of an import, by
 those of any command."""
 import argparse
+import json
 import sys
 from dataclasses import replace
 
-from streetsim.base.files import Fault, Json, refuse_unwritable
+from streetsim.base.files import Fault, Json, refuse_unwritable, whole_file
 from streetsim.base.progress import Slow
 from streetsim.base.report import COLUMNS, Report
 from streetsim.base.words import names_in, paths_in
 from streetsim.cli.defaults import complete_outputs, end_of, map_beside, name_of_network
+from streetsim.model.kept_imports import keep_files, key_of, read_kept
 from streetsim.model.mapping import INVENTED, TOLD_INVENTED
 from streetsim.model.sources import Sources
 from streetsim.model.tables import write_table
@@ -52,10 +54,11 @@ def drivers_of(args: argparse.Namespace) -> Json:
     }  # fmt: skip
 
 
-def import_by(args: argparse.Namespace, configured: dict[str, str]) -> int:
+def import_by(args: argparse.Namespace, configured: dict[str, str], keeps: bool = True) -> int:
     """Makes the import of streetsim-import: writes the run, its map and the table of --warnings, and tells on standard
     error what is other than in SUMO; gives 1 where --strict is given and vehicles were skipped, else 0. configured: the
-    options of SUMO's configuration, empty where there is none."""
+    options of SUMO's configuration, empty where there is none; keeps: whether an import of equal words and files that
+    is kept is taken, and this one kept."""
     if not args.net:
         raise Fault("no network: give NET.net.xml, or -c FILE.sumocfg (what may be given: streetsim-import --help)")
     output = args.output or f"{name_of_network(args)}.jsonl"
@@ -63,9 +66,29 @@ def import_by(args: argparse.Namespace, configured: dict[str, str]) -> int:
     args.additional, args.routes, args.trips = map(paths_in, (args.additional, args.routes, args.trips))
     sources = Sources(args.net, args.additional, args.routes, args.trips)
     outputs = {"-o": args.output, "--map": args.map, "--warnings": args.warnings}
-    refuse_unwritable(".", outputs, [*sources.paths(), *filter(None, [args.names])])
-    report = Report()
+    read = [*sources.paths(), *filter(None, [args.names])]
+    refuse_unwritable(".", outputs, read)
     options = replace(options_of(args), slow=tuple(names_in(args.slow)), part=tuple(names_in(args.part)))
+    words = [json.dumps([vars(args), configured], sort_keys=True, default=str)]
+    files = [*read, *filter(None, [args.drivers])]
+    key = key_of(words, files) if keeps and not args.warnings and not args.strict else None
+    if key is not None and (kept := read_kept(key)) is not None:
+        with whole_file(args.output) as run, whole_file(args.map) as mapped:
+            run.write(kept.run)
+            mapped.write(kept.map)
+        print(kept.messages, end="", file=sys.stderr)
+        return 0
+    report = Report()
+    messages = import_anew(args, sources, options, report, configured)
+    if key is not None and key == key_of(words, files):  # no file has changed meanwhile
+        keep_files(key, args.output, args.map, messages)
+    return 1 if args.strict and report.skipped else 0
+
+
+def import_anew(
+    args: argparse.Namespace, sources: Sources, options: Options, report: Report, configured: dict[str, str]
+) -> str:
+    """Makes an import and writes its files; gives what is told on standard error."""
     with Slow(f"importing {args.net}"):
         converted = read_and_converted(sources, options, report, configured)
         if any(name.startswith(INVENTED) for name in converted[3]):
@@ -73,10 +96,10 @@ def import_by(args: argparse.Namespace, configured: dict[str, str]) -> int:
     mapping = write_run(args.output, args.map, converted, report, sources, args.names, end_of(configured))
     if args.warnings:
         write_table(args.warnings, COLUMNS, report.rows())
-    print(*report.lines(), sep="\n", end="\n" if any(report.lines()) else "", file=sys.stderr)
-    print(
+    summary = (
         f"{len(mapping.nodes):,} nodes, {len(mapping.links):,} links, {len(mapping.turns):,} turns, "
-        f"{len(mapping.signals):,} signals, {len(mapping.cars):,} vehicles",
-        file=sys.stderr,
+        f"{len(mapping.signals):,} signals, {len(mapping.cars):,} vehicles"
     )
-    return 1 if args.strict and report.skipped else 0
+    messages = "".join(f"{line}\n" for line in [*report.lines(), summary])
+    print(messages, end="", file=sys.stderr)
+    return messages

@@ -5,7 +5,7 @@ client: its program, for lines of a script's own; fleet: its vehicles; view: whe
 links lead on; signals_in_force: what its lights show; detours: routes round shut edges; calls: those that scenarios and
 TraCI both have.
 
-session: a run under TraCI. opening, options, street_facts: SUMO's words and files; kept_imports: imports kept on the
-disk; tally, inside, vehicle_points: how long and how far, and where in the plane; columns: values of many vehicles or
-lanes at once; lights, types: programs of lights, and types of vehicles; shortest_paths, rerouting: other routes; deeds,
-saving: states; statistics: SUMO's last lines; writing: output files."""
+session: a run under TraCI. opening, options, street_facts: SUMO's words and files; tally, inside, vehicle_points: how
+long and how far, and where in the plane; columns: values of many vehicles or lanes at once; lights, types: programs of
+lights, and types of vehicles; shortest_paths, rerouting: other routes; deeds, saving: states; statistics: SUMO's last
+lines; writing: output files."""

@@ -14,7 +14,7 @@ from streetsim.model.replications import DRAWN
 from streetsim.observe.sumo_kinds import DETAILS, OutputFile
 from streetsim.simulation.confining import why_not_written
 from streetsim.simulation.errors import FatalTraCIError
-from streetsim.simulation.kept_imports import KeptImport, key_of, read_kept, write_kept
+from streetsim.model.kept_imports import keep_files, key_of, read_kept
 from streetsim.simulation.options import IMPORTED, LOGS, NO_FILE, read_options, unwritten_of, warnings_of
 from streetsim.simulation.script_settings import ScriptSettings
 from streetsim.simulation.session import TraciSession
@@ -85,8 +85,7 @@ def import_or_take_kept(folder: Path, arguments: Sequence[str], routes: Sequence
     with redirect_stderr(StringIO()) as messages:
         import_files([*arguments, "-o", str(run), "--map", str(mapping)], routes)
     if key is not None and key == key_of(all_words, files):  # no file has changed meanwhile
-        run_text, map_text = (path.read_text(encoding="utf-8") for path in (run, mapping))
-        write_kept(key, KeptImport(run_text, map_text, messages.getvalue()))
+        keep_files(key, run, mapping, messages.getvalue())
     return messages.getvalue()
 
 
@@ -97,11 +96,11 @@ def import_files(arguments: Sequence[str], routes: Sequence[str]) -> None:
     from streetsim.sumo.demand import Unrouted
 
     try:
-        importing.main([*arguments, *(["--routes", *routes] if routes else [])])
+        importing.main([*arguments, *(["--routes", *routes] if routes else [])], keeps=False)
     except Unrouted:
         how = "shortest by free speed, signals and volumes, as of streetsim-import --trips"
         print(f"warning: trips have the ways that are {how} (better ways: streetsim-route)", file=sys.stderr)
-        importing.main([*arguments, "--trips", *routes])
+        importing.main([*arguments, "--trips", *routes], keeps=False)
 
 
 def script_settings_of(options: Options) -> ScriptSettings:

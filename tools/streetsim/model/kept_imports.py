@@ -15,6 +15,7 @@ from pathlib import Path
 from typing import NamedTuple
 
 from streetsim import VERSION
+from streetsim.base.files import FilePath
 from streetsim.base.unpacking import LIFT
 
 SWITCH, SWITCHED_OFF = "STREETSIM_CACHE", "off"  # in the environment
@@ -112,6 +113,14 @@ def write_kept(key: str, import_texts: KeptImport) -> None:
         except OSError:
             half.unlink(missing_ok=True)
         leave_out(folder)
+
+
+def keep_files(key: str, run: FilePath, mapping: FilePath, messages: str) -> None:
+    """Keeps an import by its key, as write_kept does, of the files that it wrote."""
+    paths = Path(run), Path(mapping)
+    if kept_folder() is not None and sum(path.stat().st_size for path in paths) <= LARGEST:
+        run_text, map_text = (path.read_text(encoding="utf-8") for path in paths)
+        write_kept(key, KeptImport(run_text, map_text, messages))
 
 
 def leave_out(folder: Path) -> None:
