@@ -12,10 +12,11 @@ from shared import TOP
 
 @dataclass(frozen=True)
 class Town:
-    """A grid of lights and its demand within an hour."""
+    """A grid of lights and its demand."""
 
     side: int  # lights in a row
     vehicles: int
+    hours: int = 1
 
     @property
     def net_words(self) -> list[str]:
@@ -26,11 +27,13 @@ class Town:
     @property
     def trips_words(self) -> list[str]:
         """The words of randomTrips."""
-        often = f"-b 0 -e 3600 -p {3600 / self.vehicles:g} --seed 1"
+        seconds = 3600 * self.hours
+        often = f"-b 0 -e {seconds} -p {seconds / self.vehicles:g} --seed 1"
         return f"python3 {shared.RANDOM_TRIPS} -n town.net.xml {often} -r town.rou.xml".split()
 
 
-TOWNS = {"20x20": Town(20, 20_000), "15x15": Town(15, 9_000)}
+TOWNS = {"20x20": Town(20, 20_000), "15x15": Town(15, 9_000), "million": Town(20, 1_000_000, 50)}
+USUAL = ("20x20", "15x15")
 STEPS = {  # by what is measured: the words of the tools
     "import": ("streetsim-import", "town.net.xml", "--routes", "town.rou.xml"),
     "run --junctions": ("streetsim-run", "town.jsonl", "--junctions", "900"),
@@ -74,7 +77,8 @@ def main_towns(argv: list[str]) -> int | None:
     memory is the most of them. Tables of runs that differ between the two are named.
     """
     parser = shared.parser_of(main_towns, work=True)
-    shared.add_some(parser, "--only", TOWNS)
+    shared.add_some(parser, "--only", TOWNS, USUAL)
+    shared.add_some(parser, "--steps", STEPS)
     beside = "another repository, as a worktree of an earlier commit"
     parser.add_argument("--beside", type=shared.whole_path, help=beside)
     parser.add_argument("--times", type=int, default=2)
@@ -86,7 +90,7 @@ def main_towns(argv: list[str]) -> int | None:
         folder.mkdir(exist_ok=True)
         make(TOWNS[name], folder)
         shared.print_heads("Town | step | by | processor, s | most memory, MB")
-        for step in STEPS:
+        for step in args.steps:
             turns = {by: partial(turn, top, args.program, step, folder / by) for by, top in tools.items()}
             report(name, step, args.times, turns)
         if args.beside:
