@@ -111,12 +111,15 @@ def set_rooms(mapping: Map, approaches: Mapping[str, Approach]) -> None:
     those are pockets, which end there."""
     leads_to: defaultdict[Place, list[Place]] = defaultdict(list)
     comes_from: defaultdict[Place, list[Place]] = defaultdict(list)
+    turns_of: defaultdict[int, list[MapTurn]] = defaultdict(list)
     for turn in mapping.turns:
         if not turn.added:
+            turns_of[turn.link].append(turn)
             leads_to[turn.link, turn.lane].append((turn.next, turn.next_lane))
             comes_from[turn.next, turn.next_lane].append((turn.link, turn.lane))
     for approach in approaches.values():
-        straight = {(turn.link, turn.lane) for turn in mapping.turns if goes_straight(mapping, turn, approach)}
+        turns = (turn for link in approach.links for turn in turns_of[link])
+        straight = {(turn.link, turn.lane) for turn in turns if approach.movements[mapping.links[turn.next].edge] == "T"}
         before = {link for links in approach.edges_before for link in links}
         for lane_key in approach.lanes:
             place, approach.rooms[lane_key] = lane_key, approach.metres
@@ -126,11 +129,6 @@ def set_rooms(mapping: Map, approaches: Mapping[str, Approach]) -> None:
                     break
                 place = sources[0]
                 approach.rooms[lane_key] += mapping.links[place[0]].metres
-
-
-def goes_straight(mapping: Map, turn: MapTurn, approach: Approach) -> bool:
-    """Whether a turn from an approach goes straight on."""
-    return turn.link in approach.links and approach.movements[mapping.links[turn.next].edge] == "T" and not turn.added
 
 
 def movements_that_stop(mapping: Map) -> set[tuple[str, str]]:
