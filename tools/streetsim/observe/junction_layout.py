@@ -118,8 +118,8 @@ def set_rooms(mapping: Map, approaches: Mapping[str, Approach]) -> None:
             leads_to[turn.link, turn.lane].append((turn.next, turn.next_lane))
             comes_from[turn.next, turn.next_lane].append((turn.link, turn.lane))
     for approach in approaches.values():
-        turns = (turn for link in approach.links for turn in turns_of[link])
-        straight = {(turn.link, turn.lane) for turn in turns if approach.movements[mapping.links[turn.next].edge] == "T"}
+        turns, ways = (turn for link in approach.links for turn in turns_of[link]), approach.movements
+        straight = {(turn.link, turn.lane) for turn in turns if ways[mapping.links[turn.next].edge] == "T"}
         before = {link for links in approach.edges_before for link in links}
         for lane_key in approach.lanes:
             place, approach.rooms[lane_key] = lane_key, approach.metres
