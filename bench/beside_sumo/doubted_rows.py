@@ -148,7 +148,7 @@ def compared_works(network: MadeNetwork, draws: Random, args: argparse.Namespace
     case = Case(network.folder, network.net, tuple(network.routes), tuple(network.additional), LAST + FIRST)
     passing = {car for car, way in ways_by_car(network.routes[0]) if edge.getID() in way}
     joint, added, doubt = f"{works.edge}_{works.lane}", [], ""
-    for side in (in_sumo, lambda *asked: run_here(*asked, args.program, joint)):
+    for side in (in_sumo, lambda *asked: run_here(*asked, args.program, joint, args.tools)):
         with_works, without = (
             [side(case, closed, seed, label) for seed in args.runs]
             for closed, label in ((works, "works"), (None, "none"))

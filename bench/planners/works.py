@@ -16,7 +16,7 @@ import shared
 from beside_sumo.rows import sumo_trips
 from networks.streets import Plain
 from networks.unseen import MadeNetwork, make, read_net, ways_of
-from shared import SAMPLES, SHIPPED, TOP, numbers, run, teleports_of
+from shared import SAMPLES, SHIPPED, TOOLS, TOP, numbers, run, teleports_of
 
 PASSES = 1600  # vehicles an hour of an open lane
 FREE = 20  # metres of a lane before and behind drawn works
@@ -84,16 +84,18 @@ def in_sumo(case: Case, works: Stretch | None, seed: int, label: str) -> SeenRun
 
 
 @cache
-def convert(case: Case) -> None:
+def convert(case: Case, tools: Path) -> None:
     """Imports a case, once in each call of the script."""
     words = [case.net, *case.additional, "--routes", *case.routes, "-o", "run.jsonl", "--map", "run.map.json"]
-    run([TOP / "tools/streetsim-import", *words], case.folder)
+    run([tools / "streetsim-import", *words], case.folder)
 
 
-def run_here(case: Case, works: Stretch | None, seed: int, label: str, program: str, joint: str) -> SeenRun:
+def run_here(
+    case: Case, works: Stretch | None, seed: int, label: str, program: str, joint: str, tools: Path = TOOLS
+) -> SeenRun:
     """A run of streetsim; joint: the lane of works, which is joint without them too."""
     run_folder = case.folder / f"here-{label}-{seed}"
-    convert(case)
+    convert(case, tools)
     command = ["run.jsonl", "--map", "run.map.json", "--until", case.until, "--every", 0, "--rescue", 0]
     command += ["--out", run_folder, "--program", program]
     if works:
@@ -101,7 +103,7 @@ def run_here(case: Case, works: Stretch | None, seed: int, label: str, program: 
     elif joint:
         command.append(f"--joint={joint}")
     command += ["--seeds", f"{seed}-{seed}", "--departures", "listed"]
-    printed = run([TOP / "tools/streetsim-run", *command], case.folder)
+    printed = run([tools / "streetsim-run", *command], case.folder)
     run_folder = run_folder / f"seed-{seed}"
     with open(run_folder / "trips.csv", encoding="utf-8") as file:
         rows = list(csv.DictReader(file))
