@@ -91,8 +91,9 @@ def draw_roundabout(plain: Plain, junction: Junction, x: float) -> None:
         begin, following = at * math.pi / 2, ROUND[(at + 1) % 4]
         plain.node(f"{name}{arm}", x + radius * math.cos(begin), radius * math.sin(begin))
         draw_ends(plain, junction, arm, x, radius)
-        draw_arm(plain, junction, f"{name}{arm}", arm, 5)
-        plain.named_edge(f"{name}q{arm}", f"{name}{arm}", f"{name}{following}", **quarter(x, 0, radius, at))
+        draw_arm(plain, junction, f"{name}{arm}", arm, 5, junction.lanes)
+        shape = quarter(x, 0, radius, at) | {"numLanes": junction.lanes}
+        plain.named_edge(f"{name}q{arm}", f"{name}{arm}", f"{name}{following}", **shape)
 
 
 def way(junction: Junction, ends: str) -> str:
@@ -265,6 +266,112 @@ def main_junctions(argv: list[str]) -> int | None:
     if args.picture:
         draw(cases, theirs, ours, args.picture)
 
+
+# ---- all streams at once
+
+FULL_ARM = 900  # vehicles an hour that are more than can pass
+SHARES = {"straight": 0.6, "left": 0.2, "right": 0.2}
+MOST_OFF = 0.08
+Loads = dict[str, int]  # vehicles an hour, by arm
+
+
+def loads_of(kind: str, arms: str, hourly: int) -> list[Loads]:
+    """The loads of a junction: arms that are full while others have so many vehicles an hour."""
+    full = "ns" if kind in ("priority", "stop") else "s"
+    some = {arm: FULL_ARM if arm in full else hourly for arm in arms}
+    if kind in ("priority", "stop"):
+        return [some]
+    return [some, {arm: FULL_ARM if arm in "ns" or arms == "wes" else hourly for arm in arms}]
+
+
+@dataclass(frozen=True)
+class Full:
+    """A junction some of whose arms are full."""
+
+    title: str
+    loads: Loads
+    junction: Junction
+
+    def arms(self) -> list[str]:
+        return [arm for arm, hourly in self.loads.items() if hourly == FULL_ARM]
+
+
+ALL_KINDS = {  # kind, arms, lanes of the main street or of all
+    "main street, T": ("priority", "wes", 1), "main street, cross": ("priority", "wens", 1),
+    "main street of two lanes, cross": ("priority", "wens", 2),
+    "right before left, T": ("equal", "wes", 1), "right before left, cross": ("equal", "wens", 1),
+    "stop signs, T": ("stop", "wes", 1), "stop signs, cross": ("stop", "wens", 1),
+    "all-way stops, T": ("allway", "wes", 1), "all-way stops, cross": ("allway", "wens", 1),
+    "roundabout": ("roundabout", "wens", 1), "roundabout of two lanes": ("roundabout", "wens", 2),
+}
+
+
+def full_junctions(hourly: Sequence[int], draws: random.Random) -> list[Full]:
+    """All kinds with all loads: turns with the usual shares, or with drawn ones."""
+    found: list[Full] = []
+    for title, (kind, arms, lanes) in ALL_KINDS.items():
+        for flow in hourly:
+            for loads in loads_of(kind, arms, flow):
+                streams = tuple(
+                    Stream(arm + to[arm], count * share)
+                    for arm, count in loads.items()
+                    for turn, to in TURNS.items()
+                    for share in [SHARES[turn] * draws.uniform(0.7, 1.3)] if to[arm] in arms
+                )
+                junction = Junction(f"j{len(found)}", arms, kind, streams, lanes=lanes)
+                found.append(Full(f"{title}, {flow} an hour", loads, junction))
+    return found
+
+
+def passed_by_arm(trips: Trips) -> dict[tuple[str, str], float]:
+    """Vehicles an hour that arrived, by junction and arm."""
+    passed = Counter(
+        (name.split(".")[0], name.split(".")[3][0]) for name, (_, arrival) in trips.items() if FIRST <= arrival < LAST
+    )
+    return {key: count * 3600 / (LAST - FIRST) for key, count in passed.items()}
+
+
+def main_all_streams(argv: list[str]) -> int | None:
+    """Who passes lone junctions without a light from full arms while vehicles come from all others, beside SUMO.
+
+    Takes minutes; needs sumo.
+
+    The arms that are not full have so many vehicles an hour as --hourly tells. It prints how far the vehicles that pass
+    in an hour from full arms are off, by kind; --all: also each arm. All junctions stand in one network that netconvert
+    makes. What SUMO wrote is kept in the folder of --work.
+    """
+    parser = shared.parser_of(main_all_streams, work=True)
+    parser.add_argument("--seed", type=int, default=1, help="of departures, of shares of turns, and of SUMO")
+    parser.add_argument("--hourly", default=[150, 300, 450], type=lambda text: [int(one) for one in text.split(",")])
+    parser.add_argument("--all", action="store_true", help="also each arm")
+    shared.add_some(parser, "--kinds", ALL_KINDS)
+    parser.add_argument("--tools", default=shared.TOOLS, type=shared.whole_path, help="other tools than these")
+    args = parser.parse_args(argv)
+    folder, every = shared.work_of(args), full_junctions(args.hourly, random.Random(args.seed))
+    net, routes = prepare([one.junction for one in every], folder, args.seed)
+    theirs = passed_by_arm(in_sumo(net, routes, folder, args.seed))
+    ours = passed_by_arm(run_here(net, routes, folder, args.program, args.tools))
+    shared.print_heads("Junction | full arms | within 8 % | difference, mean | absolute, mean | largest")
+    off: dict[str, list[float]] = defaultdict(list)
+    for one in every:
+        for arm in one.arms():
+            key = one.junction.name, arm
+            off[one.title.rpartition(", ")[0]].append(ours.get(key, 0.0) / theirs[key] - 1)
+    for title, values in off.items():
+        print(full_text(title, values))
+    print(full_text("all", [value for values in off.values() for value in values]))
+    for one in every if args.all else ():
+        keys = [(one.junction.name, arm) for arm in one.arms()]
+        cells = (f"{key[1]} {theirs[key]:.0f} / {ours.get(key, 0):.0f}" for key in keys)
+        print(f"    {one.title}: {', '.join(cells)}")
+
+
+def full_text(title: str, off: Sequence[float]) -> str:
+    near, most = sum(abs(value) <= MOST_OFF for value in off), max(off, key=abs)
+    return f"| {title} | {len(off)} | {near} | {fmean(off):+.1%} | {fmean(map(abs, off)):.1%} | {most:+.1%} |"
+
+
+# ---- mean trips
 
 LEVELS = (0.1, 0.5, 1.0)
 LIT = ("--tls.cycle.time", "80")

@@ -3,6 +3,7 @@ them; and whether the networks that sumo-tools ships load."""
 
 import math
 import random
+import re
 import shlex
 import sys
 import time
@@ -421,6 +422,24 @@ def mains(main_lanes: tuple[int, ...], minor_kmh: int, crossing: str, one_way: b
         return Draft([*plain.write(folder), "--tls.cycle.time", str(draws.choice((60, 75, 90)))], drawn=drawn)
 
     return build
+
+
+MIXED = ("priority", "priority", "priority_stop", "allway_stop")  # where a main street meets another one, or a minor one
+
+
+def mixed(draws: Random, folder: Path) -> Draft:
+    """The same without lights, each junction of a kind of its own: minor streets meet right before left."""
+    draft = mains((1, 2), 50, "priority")(draws, folder)
+    path = folder / "plain.nodes.xml"
+    edges = [line.split('"') for line in (folder / "plain.edges.xml").read_text(encoding="utf-8").split("<edge ")[1:]]
+    on_main = {node for line in edges if line[9] == "8" for node in (line[3], line[5])}
+
+    def with_kind(found: re.Match[str]) -> str:
+        return f'id="{found[1]}"{found[2]}type="{draws.choice(MIXED) if found[1] in on_main else "right_before_left"}"'
+
+    text = re.sub('id="([^"]*)"([^>]*)type="priority"', with_kind, path.read_text(encoding="utf-8"))
+    path.write_text(text, encoding="utf-8")
+    return draft
 
 
 def timed(times, call):

@@ -27,8 +27,8 @@ from networks.lit_streets import (
     without_permissive,
 )
 from networks.streets import (
-    BUS_LANE, Build, Draft, bus_lane, cross, grid, lane_drop, limit, lone_light, mains, radial, random_town, rings,
-    street, types, zipper,
+    BUS_LANE, Build, Draft, bus_lane, cross, grid, lane_drop, limit, lone_light, mains, mixed, radial, random_town,
+    rings, street, types, zipper,
 )
 from shared import SUMO_HOME, run
 
@@ -136,6 +136,11 @@ LIT: dict[str, Kind] = {
     ),
 }
 KINDS |= LIT
+KINDS |= {
+    "unlit-mains": Kind("main streets of one or two lanes, no light anywhere", mains((1, 2), 50, "priority")),
+    "mixed": Kind("main streets and minor ones, each junction without a light of a kind of its own", mixed),
+}
+UNLIT = ("unlit-mains", "equal", "stops", "all-way", "roundabouts", "priority", "mixed")
 # With fixed lights or none, and without buses.
 USUAL = (
     *("town", "radial", "arterial", "grid", "turn-lanes", "one-way", "left-hand", "shared-legs", "right-on-red"),
