@@ -270,6 +270,7 @@ def main_junctions(argv: list[str]) -> int | None:
 # ---- all streams at once
 
 FULL_ARM = 900  # vehicles an hour that are more than can pass
+COUNT_END = 2400  # second at which the count ends
 SHARES = {"straight": 0.6, "left": 0.2, "right": 0.2}
 MOST_OFF = 0.08
 Loads = dict[str, int]  # vehicles an hour, by arm
@@ -297,38 +298,37 @@ class Full:
 
 
 ALL_KINDS = {  # kind, arms, lanes of the main street or of all
-    "main street, T": ("priority", "wes", 1), "main street, cross": ("priority", "wens", 1),
-    "main street of two lanes, cross": ("priority", "wens", 2),
-    "right before left, T": ("equal", "wes", 1), "right before left, cross": ("equal", "wens", 1),
-    "stop signs, T": ("stop", "wes", 1), "stop signs, cross": ("stop", "wens", 1),
-    "all-way stops, T": ("allway", "wes", 1), "all-way stops, cross": ("allway", "wens", 1),
-    "roundabout": ("roundabout", "wens", 1), "roundabout of two lanes": ("roundabout", "wens", 2),
+    "main-tee": ("priority", "wes", 1), "main-cross": ("priority", "wens", 1), "wide-cross": ("priority", "wens", 2),
+    "equal-tee": ("equal", "wes", 1), "equal-cross": ("equal", "wens", 1),
+    "stop-tee": ("stop", "wes", 1), "stop-cross": ("stop", "wens", 1),
+    "all-way-tee": ("allway", "wes", 1), "all-way-cross": ("allway", "wens", 1),
+    "roundabout": ("roundabout", "wens", 1), "wide-roundabout": ("roundabout", "wens", 2),
 }
 
 
-def full_junctions(hourly: Sequence[int], draws: random.Random) -> list[Full]:
-    """All kinds with all loads: turns with the usual shares, or with drawn ones."""
-    found: list[Full] = []
-    for title, (kind, arms, lanes) in ALL_KINDS.items():
+def full_junctions(kinds: Sequence[str], hourly: Sequence[int], draws: random.Random) -> list[Full]:
+    """Some kinds with all loads: turns have the usual shares, changed a little by draws."""
+    full_ones: list[Full] = []
+    for title, (kind, arms, lanes) in ((title, ALL_KINDS[title]) for title in kinds):
         for flow in hourly:
             for loads in loads_of(kind, arms, flow):
-                streams = tuple(
-                    Stream(arm + to[arm], count * share)
-                    for arm, count in loads.items()
-                    for turn, to in TURNS.items()
-                    for share in [SHARES[turn] * draws.uniform(0.7, 1.3)] if to[arm] in arms
-                )
-                junction = Junction(f"j{len(found)}", arms, kind, streams, lanes=lanes)
-                found.append(Full(f"{title}, {flow} an hour", loads, junction))
-    return found
+                streams = [one for arm, count in loads.items() for one in streams_of(arm, arms, count, draws)]
+                junction = Junction(f"j{len(full_ones)}", arms, kind, tuple(streams), lanes=lanes)
+                full_ones.append(Full(f"{title}, {flow} an hour", loads, junction))
+    return full_ones
+
+
+def streams_of(arm: str, arms: str, hourly: int, draws: random.Random) -> list[Stream]:
+    """Who comes from an arm."""
+    shares = {to[arm]: SHARES[turn] * draws.uniform(0.7, 1.3) for turn, to in TURNS.items() if to[arm] in arms}
+    return [Stream(arm + end, hourly * share / sum(shares.values())) for end, share in shares.items()]
 
 
 def passed_by_arm(trips: Trips) -> dict[tuple[str, str], float]:
     """Vehicles an hour that arrived, by junction and arm."""
-    passed = Counter(
-        (name.split(".")[0], name.split(".")[3][0]) for name, (_, arrival) in trips.items() if FIRST <= arrival < LAST
-    )
-    return {key: count * 3600 / (LAST - FIRST) for key, count in passed.items()}
+    arrived = (name.split(".") for name, (_, arrival) in trips.items() if FIRST <= arrival < COUNT_END)
+    passed = Counter((name, ends[0]) for name, _, _, ends in arrived)
+    return {key: count * 3600 / (COUNT_END - FIRST) for key, count in passed.items()}
 
 
 def main_all_streams(argv: list[str]) -> int | None:
@@ -347,23 +347,22 @@ def main_all_streams(argv: list[str]) -> int | None:
     shared.add_some(parser, "--kinds", ALL_KINDS)
     parser.add_argument("--tools", default=shared.TOOLS, type=shared.whole_path, help="other tools than these")
     args = parser.parse_args(argv)
-    folder, every = shared.work_of(args), full_junctions(args.hourly, random.Random(args.seed))
-    net, routes = prepare([one.junction for one in every], folder, args.seed)
-    theirs = passed_by_arm(in_sumo(net, routes, folder, args.seed))
-    ours = passed_by_arm(run_here(net, routes, folder, args.program, args.tools))
+    folder, every = shared.work_of(args), full_junctions(args.kinds, args.hourly, random.Random(args.seed))
+    net, routes = prepare([full.junction for full in every], folder, args.seed)
+    theirs = passed_by_arm(in_sumo(net, routes, folder, args.seed, COUNT_END))
+    ours = passed_by_arm(run_here(net, routes, folder, args.program, args.tools, COUNT_END))
     shared.print_heads("Junction | full arms | within 8 % | difference, mean | absolute, mean | largest")
-    off: dict[str, list[float]] = defaultdict(list)
-    for one in every:
-        for arm in one.arms():
-            key = one.junction.name, arm
-            off[one.title.rpartition(", ")[0]].append(ours.get(key, 0.0) / theirs[key] - 1)
-    for title, values in off.items():
+    differences: dict[str, list[float]] = defaultdict(list)
+    for full in every:
+        for key in ((full.junction.name, arm) for arm in full.arms()):
+            differences[full.title.rpartition(", ")[0]].append(ours.get(key, 0.0) / theirs[key] - 1)
+    for title, values in differences.items():
         print(full_text(title, values))
-    print(full_text("all", [value for values in off.values() for value in values]))
-    for one in every if args.all else ():
-        keys = [(one.junction.name, arm) for arm in one.arms()]
+    print(full_text("all", [value for values in differences.values() for value in values]))
+    for full in every if args.all else ():
+        keys = [(full.junction.name, arm) for arm in full.arms()]
         cells = (f"{key[1]} {theirs[key]:.0f} / {ours.get(key, 0):.0f}" for key in keys)
-        print(f"    {one.title}: {', '.join(cells)}")
+        print(f"    {full.title}: {', '.join(cells)}")
 
 
 def full_text(title: str, off: Sequence[float]) -> str:

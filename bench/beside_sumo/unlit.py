@@ -61,14 +61,14 @@ def main_unlit(argv: list[str]) -> int | None:
     args = parser.parse_args(argv)
     folder = shared.work_of(args)
     shared.print_heads("Network | load | SUMO, s | here, s | the last line")
-    found = []
+    rows_found = []
     for number, (kind, seed, level) in enumerate(drawn(args.seed, args.networks, args.kinds), 1):
         if number in args.part:
-            found.append(row_beside(make(kind, seed, folder, level, seconds=rows.HALF), args))
-            print(line_of(found[-1]), flush=True)
-    print("", *summary(found), sep="\n")
+            rows_found.append(row_beside(make(kind, seed, folder, level, seconds=rows.HALF), args))
+            print(line_of(rows_found[-1]), flush=True)
+    print("", *summary(rows_found), sep="\n")
     if args.rows:
-        rows.keep(args.rows, found)
+        rows.keep(args.rows, rows_found)
 
 
 def main_unlit_cost(argv: list[str]) -> int | None:

@@ -424,7 +424,7 @@ def mains(main_lanes: tuple[int, ...], minor_kmh: int, crossing: str, one_way: b
     return build
 
 
-MIXED = ("priority", "priority", "priority_stop", "allway_stop")  # where a main street meets another one, or a minor one
+MIXED_TYPES = ("priority", "priority", "priority_stop", "allway_stop")  # of junctions on a main street
 
 
 def mixed(draws: Random, folder: Path) -> Draft:
@@ -435,7 +435,8 @@ def mixed(draws: Random, folder: Path) -> Draft:
     on_main = {node for line in edges if line[9] == "8" for node in (line[3], line[5])}
 
     def with_kind(found: re.Match[str]) -> str:
-        return f'id="{found[1]}"{found[2]}type="{draws.choice(MIXED) if found[1] in on_main else "right_before_left"}"'
+        kind = draws.choice(MIXED_TYPES) if found[1] in on_main else "right_before_left"
+        return f'id="{found[1]}"{found[2]}type="{kind}"'
 
     text = re.sub('id="([^"]*)"([^>]*)type="priority"', with_kind, path.read_text(encoding="utf-8"))
     path.write_text(text, encoding="utf-8")

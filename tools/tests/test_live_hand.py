@@ -15,7 +15,7 @@ from xml.etree import ElementTree
 from pages import DRIVER, PageCase, crossing_files, needs_driver, needs_selenium, state_after, told_by
 from support import PROGRAM, Case, needs_simulator
 from test_compared import lost_and_ended
-from test_rounds import junction, routes
+from test_rounds import junction, make_older, routes
 from test_works import fan, flows
 from streetsim.base import limits
 from streetsim.base.files import Fault
@@ -369,13 +369,15 @@ class Joined(ImportCase):
 @needs_simulator
 class GivingWay(ImportCase):
     def test_as_in_the_run(self):
-        """A minor street gives way on the page by the lines that streetsim-run sends, at the same clocks."""
+        """With a map of an earlier version a minor street gives way on the page by the lines that streetsim-run sends,
+        at the same clocks."""
         demand = routes([*((at, "w") for at in range(0, 300, 4)), *((at, "s") for at in range(2, 300, 9))])
         self.write("x.net.xml", junction())
         self.write("x.rou.xml", demand)
         run, mapped = self.folder / "run.jsonl", self.folder / "map.json"
         words = [self.folder / "x.net.xml", "--routes", self.folder / "x.rou.xml"]
         self.tool("import", *words, "-o", run, "--map", mapped)
+        make_older(mapped)
         read = read_with_map(run, mapped)
         settings = Settings(limits.CLOCK, 0, rescue=0)
         wanted, _ = giving_way(*read, settings, 2, partial(serving_program, PROGRAM, run), lambda *_: None)

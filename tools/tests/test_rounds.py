@@ -1,10 +1,12 @@
-"""Whole runs in which a minor street gives way without a light."""
+"""Whole runs in which a minor street gives way without a light: by all doors, and by rounds with maps of earlier
+versions."""
 import csv
 import json
 import random
 import unittest
 import warnings
 from contextlib import redirect_stderr
+from dataclasses import asdict
 from functools import partial
 from io import StringIO
 from unittest import mock
@@ -15,7 +17,9 @@ from streetsim.base.files import Fault
 from streetsim.control.settings import Settings
 from streetsim.kernel.serving import serving_program
 from streetsim.model.mapping import read_map
+from streetsim.model.named import rows_of
 from streetsim.model.runs import run_of_texts
+from streetsim.model.waiting import Foe, GivingWay, NodeWays
 from streetsim.observe.giving_way_rounds import run_round
 from streetsim.observe.run_making import RunOptions
 from streetsim.report.picture_plots import Corridor
@@ -24,6 +28,7 @@ from streetsim.search import signal_found
 from streetsim.search.signal_found import PlanFiles
 from streetsim.search.signal_town import Reading, read_town
 from streetsim.search.study_variants import read_study
+from streetsim.sumo.conflicts import JOINING
 import streetsim.traci as traci
 
 LAST = 4500  # seconds; counted from 600 on
@@ -61,6 +66,15 @@ def routes(departs):
         for second, edge in sorted(departs)
     )
     return f"<routes>{''.join(vehicles)}</routes>"
+
+
+def make_older(path):
+    """Has the map of such a junction say who gives way as earlier versions did, for whom rounds are made."""
+    content = json.loads(path.read_text(encoding="utf-8"))
+    [ways] = rows_of(NodeWays, content.pop("open_ways"))
+    foe = Foe(*ways.ways[1][0], JOINING, True)
+    content["yields"] = [asdict(GivingWay(ways.node, tuple(ways.ways[0]), (foe,)))]
+    path.write_text(json.dumps(content), encoding="utf-8")
 
 
 @needs_simulator
@@ -108,6 +122,14 @@ class Minor(Rounds):
         self.told = self.imported(junction(), routes([*departs, (50, "s")]))
 
     def test_a_vehicle_waits_for_those_who_go_first(self):
+        """Alone it takes some 45 s."""
+        self.run_it("--until", 600)
+        self.assertGreater(self.trips()["s.50"], 60)
+        self.assertGreater(self.setting()["yielding"]["lit_lines"], 1)
+        self.assertEqual(self.setting()["yielding"]["lines"], 0)
+
+    def test_with_a_map_of_an_earlier_version_it_waits_by_rounds(self):
+        make_older(self.folder / "map.json")
         self.run_it("--until", 600, "--rounds", 0, name="nobody")
         said, _ = self.run_it("--until", 600)
         self.assertLess(self.trips("nobody")["s.50"], 60)
@@ -131,9 +153,8 @@ class Minor(Rounds):
         text = text.replace("</net>", lit).replace("<junction", end, 1)
         departs = [(4 * at, "w") for at in range(30)]
         self.imported(text, routes([*departs, (50, "s")]).replace(' e"', ' e z"'))
-        said, _ = self.run_it("--until", 600, "--sumo-output", "tripinfo", name="lit")
-        self.assertIn("1 junctions without a light give way", said)
-        self.assertGreater(self.trips("lit")["s.50"], 138 + 22 - 50)
+        self.run_it("--until", 600, "--sumo-output", "tripinfo", name="lit")
+        self.assertGreater(self.trips("lit")["s.50"], 60)
         rows = (self.folder / "lit/phases.csv").read_text(encoding="utf-8").splitlines()
         self.assertTrue([row for row in rows if row.endswith(",gap") and int(row.split(",")[-2]) > 5])
         told = (self.folder / "lit/sumo/tripinfo.xml").read_text(encoding="utf-8")
@@ -150,9 +171,9 @@ class Minor(Rounds):
 
     def test_what_the_import_says_and_writes(self):
         self.assertIn("1 connections have to give way in SUMO", self.told)
-        [found] = json.loads((self.folder / "map.json").read_text(encoding="utf-8"))["yields"]
-        foes = [[foe[name] for name in ("link", "lane", "next")] for foe in found["foes"]]
-        self.assertEqual((found["turns"], foes, found["pace"]), ([[2, 0, 1]], [[0, 0, 1]], None))
+        [ways] = rows_of(NodeWays, json.loads((self.folder / "map.json").read_text(encoding="utf-8"))["open_ways"])
+        self.assertEqual(ways.ways, [[[2, 0, 1]], [[0, 0, 1]]])
+        self.assertEqual((ways.yields, ways.signs), ([[0, 1, False]], "mM"))
 
     def test_a_map_with_something_else_is_refused(self):
         path = self.folder / "map.json"
@@ -225,11 +246,21 @@ class ManyRuns(Many):
         mine = [row for row in self.table("runs.csv", "out") if row["variant"] == "given"]
         for one, other in zip(mine, self.table("seeds.csv", "runs"), strict=True):
             self.assertEqual((one["arrived"], f"{float(other['mean_trip_s']):.3f}"), ("54", one["mean_trip_s"]))
+        self.assertNotIn("give way by some ", told)
+
+    def test_a_study_with_a_map_of_an_earlier_version_is_as_streetsim_run_says(self):
+        make_older(self.folder / "map.json")
+        told, _ = self.study("--jobs", 1)
+        self.run_it("--until", 600, "--rescue", 0, "--seeds", "1-2", "--departures", "listed", name="runs")
+        mine = [row for row in self.table("runs.csv", "out") if row["variant"] == "given"]
+        for one, other in zip(mine, self.table("seeds.csv", "runs"), strict=True):
+            self.assertEqual((one["arrived"], f"{float(other['mean_trip_s']):.3f}"), ("54", one["mean_trip_s"]))
             setting = self.setting(f"runs/seed-{one['seed']}")["yielding"]
             self.assertEqual((int(one["junctions_giving_way"]), int(one["signal_lines"])), (1, setting["lines"]))
         self.assertIn("1 junctions without a light give way by some ", told)
 
     def test_a_study_is_the_same_for_any_jobs_and_without_rounds_nobody_waits(self):
+        make_older(self.folder / "map.json")
         self.study("--jobs", 1, out="one")
         self.study("--jobs", 3, out="three")
         for name in ("runs.csv", "differences.csv"):
@@ -251,20 +282,13 @@ class ManyRuns(Many):
                 )
                 read_study(self.write("study.toml", text), PROGRAM)
 
-    def test_a_search_makes_gaps_for_what_it_finds(self):
-        _, told = self.signals("--jobs", 1)
-        said = (
-            r"1 junctions without a light give way by \d+ signal lines under the given plan; "
-            r"for the plan found these are made anew"
-        )
-        self.assertRegex(told, said)
+    def test_a_search_finds_what_streetsim_run_confirms(self):
+        self.signals("--jobs", 1)
         self.signals("--jobs", 3, out="three")
-        self.signals("--rounds", 0, out="nobody")
-        trip = {out: self.table("before-after.csv", out)[0] for out in ("found", "three", "nobody")}
+        trip = {out: self.table("before-after.csv", out)[0] for out in ("found", "three")}
         self.assertEqual((self.folder / "found.add.xml").read_bytes(), (self.folder / "three.add.xml").read_bytes())
         self.assertEqual(trip["found"], trip["three"])
-        self.assertGreater(float(trip["found"]["before"]), float(trip["nobody"]["before"]) + 5)
-        # The report's runs are those of streetsim-run with the plan found, its rounds and the seeds of the report.
+        # The report's runs are those of streetsim-run with the plan found and the seeds of the report.
         net, routes = self.folder / "net.net.xml", self.folder / "demand.rou.xml"
         words = [net, self.folder / "found.add.xml", "--routes", routes]
         self.tool("import", *words, "-o", self.folder / "run.jsonl", "--map", self.folder / "map.json")
@@ -273,6 +297,7 @@ class ManyRuns(Many):
         self.assertAlmostEqual(float(trip["found"]["after"]), sum(means) / 3, delta=0.001)
 
     def test_pictures_of_plans_have_their_gaps(self):
+        make_older(self.folder / "map.json")
         files = [str(self.folder / name) for name in ("run.jsonl", "map.json", "net.net.xml")]
         town = read_town(Reading(*files[:2], files[2:], 600, PROGRAM, 5, (), 2))
         target = PlanFiles("", "", Corridor(["w", "e"], 0, 300), RunOptions(PROGRAM, 2), 600)
@@ -324,13 +349,9 @@ class Scripts(Rounds):
             warnings.simplefilter("error")
             with Scenario(*self.files) as sim:
                 self.assertEqual(self.arrival(sim), self.end)
-                self.assertEqual((sim.yielding.rounds, sim.yielding.junctions), (2, 1))
             with Scenario(*self.files) as sim:
                 sim.simulationStep(self.end - 1)
                 self.assertNotEqual(sim.vehicle.reply_on("s.50").state, "arrived")
-            with Scenario(*self.files, rounds=0) as sim:
-                self.assertLess(self.arrival(sim), 110)
-                self.assertEqual(sim.yielding.lines, 0)
 
     def started(self, *words):
         """When the minor vehicle arrives under a script, and what is told at the start."""
@@ -346,16 +367,9 @@ class Scripts(Rounds):
                 return clock, said.getvalue()
         return None, said.getvalue()
 
-    def test_a_script_for_traci_gives_way_and_says_so(self):
-        clock, told = self.started()
+    def test_a_script_for_traci_gives_way_as_streetsim_run_does(self):
+        clock, _ = self.started()
         self.assertEqual(clock, self.end)
-        self.assertRegex(
-            told,
-            "1 junctions without a light give way by \\d+ signal lines, in the gaps of the vehicles of the route files",
-        )
-        clock, told = self.started("--rounds", "0")
-        self.assertLess(clock, 110)
-        self.assertNotIn("give way by", told)
         with self.assertRaisesRegex(traci.FatalTraCIError, "--rounds 11: is not 0 to 10"):
             self.started("--rounds", "11")
 

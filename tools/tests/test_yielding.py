@@ -8,7 +8,7 @@ from seen import blocks_of, made
 from support import DATA, PROGRAM, Case, needs_simulator
 from streetsim.base.arrays import numpy as np
 from streetsim.control.settings import Settings
-from streetsim.control.yielding import AFTER_STAND, SNEAK_SECONDS, LitYielding
+from streetsim.control.yielding import AFTER_STAND, SNEAK_SECONDS, YieldingTurns
 from streetsim.control.yielding_fullness import LitFullness
 from streetsim.control.yielding_plans import held_back, with_held_back
 from streetsim.control.yielding_ways import NO_CELL
@@ -16,7 +16,7 @@ from streetsim.kernel.loop import Observer, own_line
 from streetsim.kernel.seconds import Block, Vehicles
 from streetsim.model.mapping import Map, MapLink, MapTurn, read_map
 from streetsim.model.runs import read_own_run
-from streetsim.model.waiting import LitWays
+from streetsim.model.waiting import NodeWays
 from streetsim.observe.giving_way_rounds import with_lines
 from streetsim.sumo.greens import headway
 
@@ -31,16 +31,23 @@ def mapping(yields=((0, 1, False),), stops=(), straight=STRAIGHT):
     ends = [(1, 0)] * 3 + [(0, 1)] * 3
     links = [MapLink(f"e{at}", (0,), *pair, CELLS, 2, 300.0, ()) for at, pair in enumerate(ends)]
     turns = [MapTurn(*turn, 0, "L", at, False) for at, turn in enumerate((LEFT, straight, RIGHT))]
-    ways = LitWays(0, ((LEFT,), (straight,), (RIGHT,)), tuple(yields), tuple(stops))
+    ways = NodeWays(0, ((LEFT,), (straight,), (RIGHT,)), tuple(yields), tuple(stops))
     return Map([("n0", 0, 0, 3), ("n1", 0, 0, 3)], links, turns, [("L", 0)], [], {}, [], lit_ways=[ways])
+
+
+def open_mapping(signs, yields=((0, 1, False),), straight=STRAIGHT):
+    """The same streets without a light; signs: of left, straight and right."""
+    made = mapping(yields, straight=straight)
+    ways = replace(made.lit_ways[0], signs=signs)
+    return replace(made, lit_ways=[], open_ways=[ways], signals=[])
 
 
 class Scene:
     """A run whose seconds are written by hand, and the plans that the controller shows by them."""
 
     def __init__(self, plans, mapping, green=(LEFT, STRAIGHT, RIGHT)):
-        """plans: the links of each vehicle; green: turns of the first GREEN seconds."""
-        phases = [[GREEN, [[*turn] for turn in sorted(green)]], [RED, []]]
+        """plans: the links of each vehicle; green: turns of the first GREEN seconds, where there is a light."""
+        phases = [[GREEN, [[*turn] for turn in sorted(green)]], [RED, [] if mapping.lit_ways else sorted(green)]]
         self.plan = {"cmd": "signal", "node": 0, "offset": 0, "phases": phases}
         vehicles = Vehicles()
         vehicles.add(range(len(plans)), [1] * len(plans), plans)
@@ -49,7 +56,7 @@ class Scene:
             map=mapping, run=run, start=0, until=1000, sent_lines=[], vehicles=vehicles, send_now=self.keep
         )
         self.shown = {turn: turn in green for turn in (LEFT, STRAIGHT, RIGHT)}
-        self.controller = LitYielding(mapping)
+        self.controller = YieldingTurns(mapping)
         self.controller.begin(self.kernel)
 
     def keep(self, lines, passed_on, for_a_gap):
@@ -81,6 +88,58 @@ class Scene:
     def in_force(self, command):
         """Notes what is shown."""
         self.command = command
+
+
+class WithoutALight(unittest.TestCase):
+    """How long one waits for who comes without a light: by SUMO's states of the connections."""
+
+    def goes(self, signs, left, straight, clocks=(5,)):
+        """Whether who is on the left street, (cells to the line, speed), goes at the last clock."""
+        scene = Scene([[0, 3], [1, 4]], open_mapping(signs))
+        return [LEFT in scene.second(clock, (0, {0: left}), (1, {1: straight})) for clock in clocks][-1]
+
+    def test_who_gives_way_needs_longer_than_at_a_light(self):
+        """At 1.83 cells a second 9 cells to drive take 4.9 s, 10 cells 5.5; who is seen first has stood for 3 s."""
+        self.assertFalse(self.goes("mMM", (1, 0), (10, 2)))
+        self.assertTrue(self.goes("mMM", (1, 0), (11, 2)))
+
+    def test_who_stood_for_long_goes_before_one_who_can_brake(self):
+        """After 10 s it needs a second less; one whose line is 4 cells ahead at 2 cells a second cannot stop."""
+        clocks = [*range(5, 22)]
+        self.assertTrue(self.goes("mMM", (1, 0), (9, 2), clocks))
+        self.assertFalse(self.goes("mMM", (1, 0), (4, 2), [*range(5, 200)]))
+
+    def test_who_stands_at_its_line_is_in_the_way_of_those_who_give_way_to_it(self):
+        """Though it waits itself."""
+        scene = Scene([[0, 3], [1, 4], [2, 5]], open_mapping("m=M", ((0, 1, False), (1, 2, False))))
+        lanes = (0, {0: (1, 0)}), (1, {1: (1, 0)}), (2, {2: (3, 2)})
+        self.assertFalse([clock for clock in range(5, 130) if LEFT in scene.second(clock, *lanes)])
+        self.assertIn(LEFT, scene.second(131, (0, {0: (1, 0)}), (2, {2: (3, 2)})))
+
+    def test_who_has_to_stop_does_so_though_nobody_comes(self):
+        for sign in "sw":
+            scene = Scene([[0, 3]], open_mapping(f"{sign}MM"))
+            self.assertNotIn(LEFT, scene.second(5, (0, {0: (2, 2)})))
+            self.assertIn(LEFT, scene.second(6, (0, {0: (1, 0)})))
+
+    def test_who_joins_a_street_from_a_stop_sign_waits_for_all_who_are_seen(self):
+        street = open_mapping("sMM", straight=(1, 0, 3))
+        for cells, goes in ((36, False), (38, True)):
+            scene = Scene([[0, 3], [1, 3]], street, green=(LEFT, (1, 0, 3), RIGHT))
+            self.assertEqual(LEFT in scene.second(5, (0, {0: (1, 0)}), (1, {1: (cells, 2)})), goes)
+
+    def test_where_all_stop_who_came_first_goes_first(self):
+        scene = Scene([[0, 3], [1, 4]], open_mapping("wwM", ((0, 1, False), (1, 0, False))))
+        scene.second(4, (0, {0: (2, 2)}), (1, {1: (1, 0)}))
+        self.assertEqual(scene.second(5, (0, {0: (1, 0)}), (1, {1: (1, 0)})) & {LEFT, STRAIGHT}, {STRAIGHT})
+
+    def test_a_ring_of_those_who_wait_for_each_other_right_before_left_opens(self):
+        yields = ((0, 1, False), (1, 2, False), (2, 0, False))
+        scene = Scene([[0, 3], [1, 4], [2, 5]], open_mapping("===", yields))
+        lanes = (0, {0: (1, 0)}), (1, {1: (1, 0)}), (2, {2: (1, 0)})
+        shown = [scene.second(clock, *lanes) & {LEFT, STRAIGHT, RIGHT} for clock in range(5, 30)]
+        self.assertTrue(all(len(turns) < 2 for turns in shown))
+        self.assertEqual(set().union(*shown), {LEFT, STRAIGHT, RIGHT})
 
 
 class Gaps(unittest.TestCase):
@@ -184,6 +243,16 @@ class Full(unittest.TestCase):
                 fullness.note_seconds(1)
             fullness.end_part()
             self.assertEqual(fullness.passages.get(1, 0), passages)
+
+    def test_a_lane_without_a_light_with_somebody_first_for_half_of_the_time(self):
+        for busy, passages in ((5, 90), (4, 0)):
+            fullness = LitFullness(2, 0, [1])
+            for clock in range(900):
+                fronts = [(1, clock // 10)] if clock % 10 < busy else []
+                fullness.note_fronts(clock, np.array([NO_CELL, 5]), fronts)
+                fullness.note_seconds(1)
+            fullness.end_part()
+            self.assertEqual((fullness.crowded[1], fullness.passages[1]), (passages, 0))
 
 
 class Record(Observer):

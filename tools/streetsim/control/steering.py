@@ -10,7 +10,7 @@ from streetsim.control.rescue import Rescue
 from streetsim.control.settings import Settings
 from streetsim.control.timed import Timed, TimesOfDay
 from streetsim.control.works_closures import begun_here, closures_of
-from streetsim.control.yielding import LitYielding
+from streetsim.control.yielding import YieldingTurns
 from streetsim.kernel.loop import Controller
 from streetsim.model.mapping import Map
 from streetsim.model.runs import Run
@@ -28,7 +28,7 @@ class Steering:
         self.buses, self.rescue, self.timed = Buses(settings.buses, self.driver), Rescue(settings.rescue), Timed()
         self.lights = Lights(self.driver)
         self.ending = Ending(self.buses, self.timed, lights.longest)
-        self.yielding = LitYielding(mapping)
+        self.yielding = YieldingTurns(mapping)
         self.controllers: list[Controller] = [
             self.merging,
             self.buses,
@@ -38,7 +38,7 @@ class Steering:
             self.rescue,
             self.timed,
             TimesOfDay(self.driver),
-            *([self.yielding] if mapping.lit_ways else []),
+            *([self.yielding] if mapping.ways else []),
         ]
 
     def stops(self) -> list[StopOutcome]:

@@ -1,14 +1,17 @@
-"""Giving way at lights by what happens: each turn that is green together with others that go before it is shown green
-in the next second where the vehicles that are there leave a gap, and red where they do not.
+"""Giving way by what happens: each turn that is green together with others that go before it, at a light or without
+one, is shown green in the next second where the vehicles that are there leave a gap, and red where they do not.
 
-The constants were chosen on lone crosses alone, beside SUMO (one cross each, 50 km/h, lefts on their own lane and on a
-shared one, greens of 14 to 57 s, 0 to 1,000 vehicles an hour against them): the gaps are SUMO's own, AFTER_STAND and
-SNEAK_SECONDS stand for what vehicles do inside a junction, as here they wait at the line. At lone streets with lefts
-against right turns one that waits 1 or 2 s longer behind whom it joins is nearer to SUMO; this locks the sample town.
+The constants of lights were chosen on lone crosses alone, beside SUMO (one cross each, 50 km/h, lefts on their own lane
+and on a shared one, greens of 14 to 57 s, 0 to 1,000 vehicles an hour against them): the gaps are SUMO's own,
+AFTER_STAND and SNEAK_SECONDS stand for what vehicles do inside a junction, as here they wait at the line. At lone
+streets with lefts against right turns one that waits 1 or 2 s longer behind whom it joins is nearer to SUMO; this locks
+the sample town. Those without a light began from SUMO's seconds at lone junctions with one that goes first, then were
+chosen on lone junctions with all streams (bench/run all-streams, 200 and 400 vehicles an hour, seed 1; lone-trips) and
+on 14 networks (bench/run unlit, seed 4102, one run each).
 """
 from __future__ import annotations
 
-from collections import Counter
+from collections import Counter, defaultdict
 from collections.abc import Mapping, Sequence
 from dataclasses import dataclass
 from itertools import takewhile
@@ -17,10 +20,11 @@ from streetsim.base.arrays import Array
 from streetsim.control.yielding_fullness import LitFullness
 from streetsim.control.yielding_plans import AS_PLANNED, CLOSED, OPENED, PlansInForce, ShownPhase
 from streetsim.control.yielding_sight import LinksAhead, LanesSeen
-from streetsim.control.yielding_ways import NO_TURN, Lanes, MeetingTurn, Ways
-from streetsim.kernel.loop import Controller, Kernel, SentLine
+from streetsim.control.yielding_ways import ALL_WAY, EQUAL, NO_TURN, Lanes, MeetingTurn, Ways
+from streetsim.kernel.loop import NEVER, Controller, Kernel, SentLine
 from streetsim.kernel.seconds import READY, Block
 from streetsim.model.mapping import Map
+from streetsim.model.runs import Command
 
 STANDING_GAP, ROLLING_GAP = 3.5, 3.0  # seconds that are free before one who stands or follows, and who rolls alone
 LONGER = 0.9  # seconds more for each cell more of a vehicle, which it drives at the speed of a turn
@@ -32,6 +36,13 @@ HALF = 0.5  # of a second, to which clocks are compared
 SURE = 0.9  # of the seconds in which one comes who goes first: before that it has not passed
 QUEUED = 8  # seconds for which others on the lane of one that gave way keep its distance
 LONG_AGO = -99  # a clock
+# Without a light: seconds of standing for which one needs a second less before one who comes; seconds more between two,
+# the first of which stood.
+PATIENCE, AFTER_OPEN_STAND = 10.0, 0.4
+# Share of the seconds in which one that waits in a ring lets others go (SUMO's): who turns off, who goes straight on.
+LETS_GO = 0.75, 0.25
+ENTERED = 2  # seconds in which one is in the way of those before whom it should have waited
+OPEN_CYCLE = 60  # seconds of the plan of a node without a light, which has all green
 
 
 @dataclass(slots=True)
@@ -42,8 +53,13 @@ class Front:
     slot: int
     turn: int
     way: MeetingTurn
-    stands: bool  # at the stop line
+    since: int  # the clock since which it stands at the stop line, NEVER where it does not
     looks: bool = False  # for a gap
+
+    @property
+    def stands(self) -> bool:
+        """Whether it stands at the stop line."""
+        return self.since != NEVER
 
 
 @dataclass(slots=True)
@@ -73,15 +89,16 @@ class Blocked:
         return clock < self.until and self.car == front.car and self.turn == front.turn and self.phase is phase
 
 
-class LitYielding(Controller):
-    """Has turns at lights give way to those who come."""
+class YieldingTurns(Controller):
+    """Has turns give way to those who come."""
 
     shows_alone = True
 
     def __init__(self, mapping: Map) -> None:
-        """mapping: with who gives way at lights."""
+        """mapping: with who gives way."""
         self.mapping, self.line_count = mapping, 0
-        self.fullness = LitFullness(2 * len(mapping.links), 0)
+        open_slots = {2 * link + lane for one in mapping.open_ways for way in one.ways for link, lane, _ in way}
+        self.fullness = LitFullness(2 * len(mapping.links), 0, open_slots)
 
     def begin(self, kernel: Kernel) -> None:
         """Nobody waits yet."""
@@ -90,17 +107,31 @@ class LitYielding(Controller):
         self.ways = Ways(self.mapping)
         self.lanes = Lanes(self.mapping, self.ways, kernel.run.load.command["nodes"])
         self.plans, self.links_ahead = PlansInForce(self.ways, self.lanes), LinksAhead(kernel.vehicles)
-        for line in kernel.run.first:
-            self.plans.note(kernel.start, line.command)
+        for command in [*self.open_plans(), *(line.command for line in kernel.run.first)]:
+            self.plans.note(kernel.start, command)
         self.fullness.end += kernel.start
         self.left_at: dict[int, int] = {}  # by turn the clock at which one left by it
         self.free_at: dict[int, float] = {}  # by lane the clock from which on the next one may go
         self.held_cars: dict[int, int] = {}  # by lane who stood there in the last second and was to wait
         self.waited: dict[int, tuple[int, int]] = {}  # by lane who waited there last, and until when
         self.let_go: list[Front] = []  # in the last second
-        self.stood_since: dict[int, int] = {}  # by car the clock since which it stands first
+        self.standing: dict[int, tuple[int, int]] = {}  # by lane who stands first, and the clock since which it does
         self.looked_at: set[int] = set()  # lanes in the last second
         self.blocked: dict[int, Blocked] = {}  # by lane
+        self.fronts: dict[int, Front] = {}  # by lane, in this second
+        self.waits_for: dict[int, int] = {}  # by lane the one of who stands, for whom somebody waited there last
+
+    def open_plans(self) -> list[Command]:
+        """Plans of the nodes without a light: all is green."""
+        turns_at = defaultdict[int, list[list[int]]](list)
+        nodes = {one.node for one in self.mapping.open_ways}
+        for turn in self.mapping.turns:
+            if (node := self.mapping.links[turn.link].end) in nodes:
+                turns_at[node].append([turn.link, turn.lane, turn.next])
+        return [
+            {"cmd": "signal", "node": node, "offset": 0, "phases": [[OPEN_CYCLE, turns]]}
+            for node, turns in sorted(turns_at.items())
+        ]
 
     def next_clock(self) -> int:
         """The next second in which somebody may have to give way; the one after the last where a plan was sent."""
@@ -126,14 +157,15 @@ class LitYielding(Controller):
         if until > self.clock and near.stay_first and not self.let_go:
             self.clock = min(until, clock + self.idle_seconds(cells_to_come, block))
 
-    def full_passages(self) -> dict[str, int]:
-        """By edge with lanes that were full, from which some give way: vehicles that passed these then; the part under
-        way is judged."""
-        found = Counter[str]()
+    def full_passages(self) -> tuple[dict[str, int], dict[str, int]]:
+        """(by edge with lanes that were full, from which some give way at lights: vehicles that passed these then; the
+        same of edges without a light that were nearly full); the part under way is judged."""
         self.fullness.end_part()
-        for slot, passages in self.fullness.passages.items():
-            found[self.mapping.links[slot >> 1].edge] += passages
-        return dict(found)
+        by_edge = Counter[str](), Counter[str]()
+        for found, lanes in zip(by_edge, (self.fullness.passages, self.fullness.crowded)):
+            for slot, passages in lanes.items():
+                found[self.mapping.links[slot >> 1].edge] += passages
+        return dict(by_edge[0]), dict(by_edge[1])
 
     def note_lines(self, clock: int) -> None:
         """Takes the plans that were sent since the last second."""
@@ -151,10 +183,11 @@ class LitYielding(Controller):
             ready = clock - 1 + self.lanes.residence[front.slot]
             if row < 0 or block.cell[row] & READY != ready or block.cell[row] >= 0:
                 continue
-            since = self.stood_since.pop(front.car, clock)
             free_at = self.free_at.get(front.slot, LONG_AGO)
             begin = free_at if clock - 1 - free_at < 1 else clock - 1
-            more = AFTER_STAND if clock - 1 - since >= LONG_STAND else 0.0
+            self.standing.pop(front.slot, None)
+            after_stand = AFTER_OPEN_STAND if front.way.sign else AFTER_STAND
+            more = after_stand if clock - 1 - front.since >= LONG_STAND else 0.0
             self.free_at[front.slot] = begin + front.way.headway + more
             self.left_at[front.turn] = clock
 
@@ -187,15 +220,19 @@ class LitYielding(Controller):
                 near.stay_first &= not is_first and near.is_front(slot)
                 continue
             turn = self.ways.number.get((slot, self.links_ahead.links(car, slot >> 1)[0]), NO_TURN)
-            stands = speed == 0 and cells_left == 1
-            if stands:
-                self.stood_since.setdefault(car, clock if slot in self.looked_at else clock - 1 - LONG_STAND)
+            since = self.stands_since(clock, car, slot) if speed == 0 and cells_left == 1 else NEVER
             if turn != NO_TURN:
                 near.first.append((slot, car))
                 if self.ways.gives[turn] or slot in self.free_at or slot in self.plans.changed:
-                    near.fronts.append(Front(car, slot, turn, self.ways.all[turn], stands))
+                    near.fronts.append(Front(car, slot, turn, self.ways.all[turn], since))
         self.looked_at = looked_at
         return near
+
+    def stands_since(self, clock: int, car: int, slot: int) -> int:
+        """The clock since which one stands first on a lane."""
+        if self.standing.get(slot, (NO_TURN, 0))[0] != car:
+            self.standing[slot] = car, clock if slot in self.looked_at else clock - 1 - LONG_STAND
+        return self.standing[slot][1]
 
     def idle_seconds(self, cells_to_come: Array, block: Block) -> int:
         """The seconds in which nobody comes near a stop line who is not there yet; cells_to_come: as found."""
@@ -208,7 +245,9 @@ class LitYielding(Controller):
         plans = self.plans
         for front in fronts:
             front.looks = plans.meets(front.turn) or (front.stands and self.may_go_late(clock, front))
-        looking = sorted((front for front in fronts if front.looks), key=lambda front: (front.way.rank, front.slot))
+        looking = [front for front in fronts if front.looks]
+        looking.sort(key=lambda front: (front.way.rank, front.since, front.slot))
+        self.fronts = {front.slot: front for front in fronts}
         goes_by_turn = {front.turn: self.goes_as_planned(clock, front) for front in fronts if not front.looks}
         awake = {front.slot for front in looking if not self.is_blocked(clock, front)}
         seen_slots = frozenset[int]().union(*(plans.seen_lanes(front.turn) for front in looking if front.slot in awake))
@@ -236,7 +275,7 @@ class LitYielding(Controller):
         green, or may go after a stop."""
         car, until = self.waited.get(front.slot, (NO_TURN, LONG_AGO))
         late = car == front.car and clock - until <= SNEAK_SECONDS
-        stopped = front.way.may_stop and clock - self.stood_since[front.car] >= 1
+        stopped = front.way.may_stop and clock - front.since >= 1
         return not self.plans.is_green(front.turn) and (late or stopped)
 
     def goes_as_planned(self, clock: int, front: Front) -> bool:
@@ -247,21 +286,78 @@ class LitYielding(Controller):
 
     def has_gap(self, clock: int, front: Front, lanes_seen: LanesSeen, going: set[int]) -> bool:
         """Whether one may go. going: the turns by which some are let go in this second."""
-        if self.free_at.get(front.slot, LONG_AGO) > clock + HALF:
+        if not self.may_leave(clock, front, lanes_seen):
             return False
+        self.waits_for.pop(front.slot, None)
+        if front.way.sign == ALL_WAY:
+            return not any(foe in going or self.came_before(clock, foe, front) for foe in front.way.foes)
+        gap_needed = self.gap_needed(clock, front)
+        for foe, gap in front.way.foes.items():
+            seconds, needed = lanes_seen.seconds.get(foe, NEVER), gap_needed + gap.seconds_more
+            if not gap.is_met or seconds >= needed:
+                continue
+            if front.way.sign and self.goes_before(clock, front, foe, needed - seconds, lanes_seen, going):
+                continue
+            if not front.way.sign and self.waits(foe, lanes_seen, going):
+                continue
+            if not self.plans.gives(foe) and self.plans.is_green(front.turn):
+                until, phase = clock + int(SURE * seconds), self.plans.phase(front.turn)
+                self.blocked[front.slot] = Blocked(front.car, front.turn, until, phase)
+            return False
+        return True
+
+    def may_leave(self, clock: int, front: Front, lanes_seen: LanesSeen) -> bool:
+        """Whether one may go where nobody comes: it keeps its distance, has stopped where it must, and nobody is in its
+        way who passed."""
+        way = front.way
+        if self.free_at.get(front.slot, LONG_AGO) > clock + HALF or (way.always_stops and not front.stands):
+            return False
+        since_passed = lanes_seen.since_passed
+        if any(since_passed.get(foe, gap.passing) < gap.passing for foe, gap in way.foes.items()):
+            return False
+        return not any(since_passed.get(other, ENTERED) < ENTERED for other in way.entering)
+
+    def gap_needed(self, clock: int, front: Front) -> float:
+        """Seconds that have to be free at a light before one goes."""
         follows = clock - self.left_at.get(front.turn, LONG_AGO) <= FOLLOWING
         gap_needed = STANDING_GAP if front.stands or follows else ROLLING_GAP
-        gap_needed += LONGER * (int(self.links_ahead.vehicles.size[front.car]) - 1)
-        for foe, is_crossed in front.way.foes.items():
-            if foe in lanes_seen.turns_passed:
+        return gap_needed + LONGER * (int(self.links_ahead.vehicles.size[front.car]) - 1)
+
+    def came_before(self, clock: int, foe: int, front: Front) -> bool:
+        """Whether another one stands at its line for longer, where all stop, and may go."""
+        other = self.fronts.get(self.ways.all[foe].slot)
+        if other is None or other.turn != foe or not other.stands:
+            return False
+        may_go = self.free_at.get(other.slot, LONG_AGO) <= clock + HALF
+        return may_go and (other.since, other.slot) < (front.since, front.slot)
+
+    def goes_before(
+        self, clock: int, front: Front, foe: int, lacking: float, lanes_seen: LanesSeen, going: set[int],
+    ) -> bool:  # fmt: skip
+        """Whether one goes without a light though seconds are lacking before another one comes: it stood for so long
+        that those brake for it who come, or all wait for each other."""
+        slot, stood = self.ways.all[foe].slot, clock - front.since if front.stands else 0
+        if stood >= PATIENCE * lacking and foe not in lanes_seen.comes_on:
+            return True
+        self.waits_for[front.slot] = slot
+        if not front.way.is_equal or any(turn in front.way.foes or turn in front.way.entering for turn in going):
+            return False
+        lets_go = self.lets_others_go(clock, self.fronts.get(slot)) and not self.lets_others_go(clock, front)
+        return lets_go and front.stands and self.is_in_ring(front)
+
+    def lets_others_go(self, clock: int, front: Front | None) -> bool:
+        """Whether one that waits right before left in a ring lets the one go in this second that waits for it."""
+        share = LETS_GO[front.way.sign == EQUAL[0]] if front else 0.0
+        return front is not None and (front.car * 7919 + clock * 104729) % 1009 < share * 1009
+
+    def is_in_ring(self, front: Front) -> bool:
+        """Whether one waits for another one and so on until somebody waits for it."""
+        slot, left = self.waits_for.get(front.slot), len(self.waits_for)
+        while slot is not None and slot != front.slot and left:
+            if slot not in self.fronts:
                 return False
-            seconds = lanes_seen.seconds.get(foe, gap_needed)
-            if is_crossed and seconds < gap_needed and not self.waits(foe, lanes_seen, going):
-                if not self.plans.gives(foe) and self.plans.is_green(front.turn):
-                    until, phase = clock + int(SURE * seconds), self.plans.phase(front.turn)
-                    self.blocked[front.slot] = Blocked(front.car, front.turn, until, phase)
-                return False
-        return True
+            slot, left = self.waits_for.get(slot), left - 1
+        return slot == front.slot
 
     def waits(self, foe: int, seen: LanesSeen, going: set[int]) -> bool:
         """Whether one that goes first waits itself."""

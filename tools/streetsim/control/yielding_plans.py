@@ -44,7 +44,8 @@ class NodePlan:
         goes_before = np.array([[foe in ways.all[turn].foes for foe in turns] for turn in turns], np.int64)
         greens = np.array([[name in green for name in self.names] for green in shown], bool)
         comes = with_held_back(greens, np.array(seconds), goes_before)
-        meets = greens & (comes.astype(np.int64) @ goes_before.T > 0)
+        stops = np.array([ways.all[turn].always_stops for turn in turns], bool)
+        meets = greens & ((comes.astype(np.int64) @ goes_before.T > 0) | stops)
         self.phases = [self.phase_of(ways, *rows) for rows in zip(greens, comes, meets)]
         self.by_second = [phase for phase, length in zip(self.phases, seconds) for _ in range(length)]
         # Seconds of the cycle at which the lanes change on which some meet others.
@@ -208,7 +209,7 @@ class PlansInForce:
         who may have come, too."""
         phase = self.phase(turn)
         if (lanes := phase.seen_lanes.get(turn)) is None:
-            foes = self.ways.all[turn].foes.keys()
+            foes = self.ways.all[turn].foes.keys() | self.ways.all[turn].entering
             coming = foes & phase.coming if turn in phase.greens else foes
             lanes = frozenset(slot for foe in coming for slot in self.lanes.seen_by[foe])
             phase.seen_lanes[turn] = lanes

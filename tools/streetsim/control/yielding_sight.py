@@ -10,6 +10,7 @@ from streetsim.kernel.seconds import READY, Block, Vehicles
 
 DAWDLED = 0.17  # cells a step that a vehicle loses in the mean
 STARTING = 0.5  # seconds that one loses that stands on its way
+STOPPING_CELLS = 0.83  # in which one stops, for each square of its cells a step (4.5 m/s²)
 NOWHERE = -1  # the link behind the end of a plan
 
 
@@ -42,20 +43,22 @@ class LanesSeen:
         self.clock, self.links_ahead, self.held_cars = clock, links_ahead, held_cars
         self.ways, self.lanes, self.may_come = plans.ways, plans.lanes, plans.may_come
         self.seconds: dict[int, float] = {}  # by turn until the first one comes who may go on
-        self.turns_passed: set[int] = set()  # the turns by which one passed in the last second
-        self.vehicles: dict[int, list[tuple[int, int, int]]] = {}  # by lane: car, cell, speed
+        self.comes_on: set[int] = set()  # turns whose first one is at its line, or comes too fast to stop there
+        self.since_passed: dict[int, int] = {}  # by turn seconds since the last one passed its line, whole
+        self.rows: dict[int, tuple[int, int]] = {}  # by lane: the first row of the second, and that behind its last
         if not slots:
             return
+        self.car, self.cell, self.speed = (column.tolist() for column in (block.car, block.cell, block.speed))
         wanted = np.array(sorted(slots), np.int32)
         bounds = zip(wanted.tolist(), *(block.slot.searchsorted(wanted, side).tolist() for side in ("left", "right")))
-        columns = block.car, block.cell, block.speed
         for slot, begin, end in bounds:
             if begin < end:
-                self.vehicles[slot] = [*zip(*(column[begin:end].tolist() for column in columns))]
-                self.see_lane(slot)
+                self.rows[slot] = begin, end
+                self.see_lane(slot, begin, end)
         for slot in self.lanes.sources.keys() & slots:
             for other in self.lanes.sources[slot]:
-                self.see_before(slot, other)
+                if other in self.rows:
+                    self.see_before(slot, other, *self.rows[other])
 
     def turn(self, car: int, slot: int) -> int:
         """The number of the turn by which a vehicle of a lane goes on."""
@@ -66,41 +69,56 @@ class LanesSeen:
         driving = (cells_left - 1) / (self.lanes.limit[slot] - DAWDLED)
         return driving + (STARTING if speed == 0 and cells_left > 1 else 0.0)
 
-    def see_lane(self, slot: int) -> None:
-        """Takes those of a lane, from the stop line back. Where the first one stays nobody comes behind it."""
-        length, limit, lane = self.lanes.length[slot], self.lanes.limit[slot], self.vehicles[slot]
-        inside = [(car, cell & READY) for car, cell, _ in lane if cell < 0]
-        just_now = self.clock - 1 + self.lanes.residence[slot]
-        size = self.links_ahead.vehicles.size
-        self.turns_passed.update(self.turn(car, slot) for car, ready in inside if just_now - ready < size[car])
-        is_full = len(inside) >= self.lanes.room[slot]
-        for place, (car, cell, speed) in enumerate(lane):
-            cells_left = length - cell
-            if cell < 0 or cells_left > HORIZON * limit:
+    def see_lane(self, slot: int, begin: int, end: int) -> None:
+        """Takes those of a lane, from the stop line back, by rows of the second. Where the first one stays nobody comes
+        behind it."""
+        limit, first_inside = self.lanes.limit[slot], self.see_inside(slot, begin, end)
+        is_full, turns_left = end - first_inside >= self.lanes.room[slot], self.ways.turn_count[slot]
+        farthest = self.lanes.length[slot] - self.lanes.horizon[slot] * limit
+        for row in range(begin, first_inside):
+            car, cell, speed = self.car[row], self.cell[row], self.speed[row]
+            if cell < farthest:
                 break
-            turn = self.turn(car, slot)
+            cells_left, turn = self.lanes.length[slot] - cell, self.turn(car, slot)
             goes_on = turn != NO_TURN and self.may_come(turn)
             is_stuck = False
-            if place == 0:
+            if row == begin:
                 is_stuck = speed == 0 and cells_left == 1 and (is_full or self.held_cars.get(slot) == car)
                 is_stuck |= turn != NO_TURN and not goes_on and cells_left <= 2 * limit
-            if goes_on and not (is_stuck and is_full):
+            if goes_on and not (is_stuck and is_full) and turn not in self.seconds:
+                turns_left -= 1
                 self.note(turn, self.to_line(slot, cells_left, speed))
-            if is_stuck:
+                if cells_left <= 1 + STOPPING_CELLS * speed * speed:
+                    self.comes_on.add(turn)
+            if is_stuck or not turns_left:
                 break
 
-    def see_before(self, slot: int, source: int) -> None:
-        """Takes those into the seconds to a stop line of a short lane who come there from a lane before."""
+    def see_inside(self, slot: int, begin: int, end: int) -> int:
+        """Takes those of a lane who passed their line; gives the first of their rows."""
+        just_now = self.clock - 1 + self.lanes.residence[slot]
+        size, row = self.links_ahead.vehicles.size, end
+        while row > begin and self.cell[row - 1] < 0:
+            row -= 1
+            car = self.car[row]
+            turn, ago = self.turn(car, slot), just_now - (self.cell[row] & READY) + 1 - int(size[car])
+            self.since_passed[turn] = min(ago, self.since_passed.get(turn, ago))
+        return row
+
+    def see_before(self, slot: int, source: int, begin: int, end: int) -> None:
+        """Takes those into the seconds to a stop line of a short lane who come there from a lane before, by rows of the
+        second."""
         link = slot >> 1
         drive = self.lanes.length[slot] / (self.lanes.limit[slot] - DAWDLED)
-        for car, cell, speed in self.vehicles.get(source, ()):
-            cells_left = self.lanes.length[source] - cell
-            if cell >= 0 and (speed == 0 or cells_left > HORIZON * self.lanes.limit[source]):
+        farthest = self.lanes.length[source] - HORIZON * self.lanes.limit[source]
+        for row in range(begin, end):
+            car, cell, speed = self.car[row], self.cell[row], self.speed[row]
+            if cell >= 0 and (speed == 0 or cell < farthest):
                 continue
             following, after = self.links_ahead.links(car, source >> 1)
             turn = self.ways.number.get((slot, after), NO_TURN)
             if following == link and turn != NO_TURN and self.may_come(turn):
                 inside = max(0, (cell & READY) - self.clock)
+                cells_left = self.lanes.length[source] - cell
                 there = inside if cell < 0 else self.to_line(source, cells_left, speed) + self.lanes.residence[source]
                 self.note(turn, there + drive)
 

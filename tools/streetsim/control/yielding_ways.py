@@ -1,14 +1,14 @@
-"""Who gives way at lights, by number of turn and of lane (slot: twice the link, and the lane)."""
+"""Who gives way, by number of turn and of lane (slot: twice the link, and the lane)."""
 from __future__ import annotations
 
-from collections import defaultdict
+from collections import Counter, defaultdict
 from collections.abc import Mapping, Sequence
 from dataclasses import dataclass, field
 
 from streetsim.base.arrays import numpy as np
 from streetsim.base.limits import CELLS
 from streetsim.model.mapping import Map
-from streetsim.model.waiting import TurnKey
+from streetsim.model.waiting import ALWAYS_STOP, NodeWays, TurnKey
 from streetsim.sumo.greens import headway
 
 HORIZON = 9  # seconds before the stop line, from which on one who goes first is seen
@@ -16,7 +16,26 @@ MOST_RANKS = 5  # in which junctions decide; further ones count as the last
 SLOWEST = 3.0  # metres a second, below which a turn's speed counts as this
 NO_TURN = -1  # that is looked at
 NO_CELL = CELLS + 1  # beyond all
+# SUMO's states of connections without a light: right before left, a stop sign, all stop and go in turn.
+EQUAL, STOP, ALL_WAY = "=e", "s", "w"
+FAST = 10.0  # metres a second inside the junction, from which on one joins a fast stream
+# Seconds between two that follow each other: who looks out, who joins fast ones, who stops at a sign, where all stop.
+LOOKING, JOINING, AT_SIGN, IN_TURN = 2.55, 3.0, 6.15, 5.85
+# Seconds more than at a light that have to be free: of one that is crossed, of slow and of fast ones that are joined,
+# right before left, and of fast and slow ones that are joined from a stop sign, which are seen from as far.
+OPEN_MORE, ENTERING_MORE, FAST_MORE, EQUAL_MORE, STOP_FAST_MORE, STOP_MORE = 2.1, 0.4, 3.3, 2.2, 16.5, 9.5
+WIDER = 0.3  # seconds more for each further lane of a street that is crossed
+FACING_MORE, FACING_SIGNS = 4.5, "sm"  # the same of one that is crossed from a stop sign, and stops or gives way too
+STOP_HORIZON = 20  # seconds before the stop line, from which on one is seen that is joined from a stop sign
 
+
+@dataclass(slots=True, frozen=True)
+class FoeGap:
+    """What one who gives way needs before one who goes first."""
+
+    is_met: bool = True  # their ways meet
+    seconds_more: float = 0.0  # that have to be free
+    passing: int = 1  # seconds after it passed its stop line, until it is out of the way
 
 @dataclass(slots=True)
 class MeetingTurn:
@@ -26,22 +45,34 @@ class MeetingTurn:
     slot: int
     node: int
     headway: float  # seconds between two that go by it
-    foes: dict[int, bool] = field(default_factory=dict)  # turns that go first, and whether their way is crossed
+    sign: str = ""  # as NodeWays has it; empty at a light
+    foes: dict[int, FoeGap] = field(default_factory=dict)  # turns that go first
+    entering: set[int] = field(default_factory=set)  # turns that give way to it, where each gives way to some
     may_stop: bool = False  # it may go in a red after a stop
     rank: int = 0  # 0: all whom it gives way to give way to nobody
 
     @property
+    def always_stops(self) -> bool:
+        """Whether all that go by it stop first."""
+        return self.sign != "" and self.sign in ALWAYS_STOP
+
+    @property
+    def is_equal(self) -> bool:
+        """Whether those go first who come from the right."""
+        return self.sign != "" and self.sign in EQUAL
+
+    @property
     def gives(self) -> bool:
         """Whether it gives way."""
-        return bool(self.foes) or self.may_stop
+        return bool(self.foes) or self.may_stop or self.always_stops
 
 
 class Ways:
-    """The turns of lanes from which some give way at lights, and of those on which some go first there."""
+    """The turns of lanes from which some give way, and of those on which some go first there."""
 
     def __init__(self, mapping: Map) -> None:
-        """mapping: with who gives way at lights."""
-        slots = {2 * link + lane for node_ways in mapping.lit_ways for way in node_ways.ways for link, lane, _ in way}
+        """mapping: with who gives way."""
+        slots = {2 * link + lane for node_ways in mapping.ways for way in node_ways.ways for link, lane, _ in way}
         turns = [turn for turn in mapping.turns if 2 * turn.link + turn.lane in slots]
         self.all = [
             MeetingTurn(
@@ -50,28 +81,74 @@ class Ways:
             )
             for turn in turns
         ]
+        self.turn_count = Counter(way.slot for way in self.all)  # by slot
         self.number = {(way.slot, way.name[2]): at for at, way in enumerate(self.all)}
-        self.nodes = sorted({node_ways.node for node_ways in mapping.lit_ways})
-        self.set_foes(mapping)
+        self.speed = [turn.speed for turn in turns]
+        for node_ways in mapping.ways:
+            self.set_foes(mapping, node_ways)
         self.gives = [way.gives for way in self.all]  # by turn
         for _ in range(MOST_RANKS):
             for way in self.all:
                 behind = (self.all[foe].rank + 1 for foe in way.foes if self.all[foe].gives)
                 way.rank = min(MOST_RANKS, max(behind, default=0))
 
-    def set_foes(self, mapping: Map) -> None:
-        """Sets who goes before each turn, and which may go after a stop."""
-        for node_ways in mapping.lit_ways:
-            turns_by_way = [
-                [self.number.get((2 * link + lane, to), NO_TURN) for link, lane, to in way] for way in node_ways.ways
-            ]
-            for way, foe, beside in node_ways.yields:
-                for turn in turns_by_way[way]:
-                    foes = (other for other in turns_by_way[foe] if other not in turns_by_way[way])
-                    met = (other for other in foes if NO_TURN not in (turn, other))
-                    self.all[turn].foes.update((other, not beside) for other in met)
-            for turn in (turn for way in node_ways.stops for turn in turns_by_way[way] if turn != NO_TURN):
-                self.all[turn].may_stop = True
+    def set_foes(self, mapping: Map, node_ways: NodeWays) -> None:
+        """Sets who goes before each turn of a node, and which stop or may go after a stop."""
+        turns_by_way = [
+            [self.number.get((2 * link + lane, to), NO_TURN) for link, lane, to in way] for way in node_ways.ways
+        ]
+        for sign, turns in zip(node_ways.signs, turns_by_way):
+            for turn in turns:
+                self.all[turn].sign = sign
+        for way, foe, beside in node_ways.yields:
+            for turn in turns_by_way[way]:
+                foes = (other for other in turns_by_way[foe] if other not in turns_by_way[way])
+                met = (other for other in foes if NO_TURN not in (turn, other))
+                self.all[turn].foes.update((other, self.foe_gap(mapping, turn, other, beside)) for other in met)
+        for turn in (turn for way in node_ways.stops for turn in turns_by_way[way] if turn != NO_TURN):
+            self.all[turn].may_stop = True
+        for turn in (turn for turns in turns_by_way for turn in turns if self.all[turn].sign):
+            self.all[turn].headway = self.open_headway(mapping, self.all[turn])
+
+    def foe_gap(self, mapping: Map, turn: int, foe: int, beside: bool) -> FoeGap:
+        """What one needs who goes by a turn before one who goes by another."""
+        own_way, foe_way = self.all[turn], self.all[foe]
+        if not own_way.sign:
+            return FoeGap(not beside)
+        if own_way.is_equal:
+            foe_way.entering.add(turn)
+        joins = self.joins(mapping, own_way, foe)
+        fast = joins and self.speed[foe] > FAST
+        passing = 2 if fast or own_way.sign == ALL_WAY else 1
+        return FoeGap(True, self.seconds_more(mapping, own_way, foe_way, joins, fast), passing)
+
+    def seconds_more(
+        self, mapping: Map, own_way: MeetingTurn, foe_way: MeetingTurn, joins: bool, fast: bool
+    ) -> float:
+        """Seconds more than at a light that have to be free; joins, fast: whether a street, or a fast one, is
+        joined."""
+        if own_way.sign == STOP and joins:
+            return STOP_FAST_MORE if fast else STOP_MORE
+        if joins:
+            joining = FAST_MORE if fast else ENTERING_MORE
+            return max(joining, EQUAL_MORE) if own_way.is_equal else joining
+        links = mapping.links_of[mapping.links[foe_way.name[0]].edge]
+        wider = WIDER * (sum(len(mapping.links[link].lanes) for link in links) - 1)
+        if own_way.sign == STOP and foe_way.sign in FACING_SIGNS:
+            return FACING_MORE + wider
+        return (EQUAL_MORE if own_way.is_equal else OPEN_MORE) + wider
+
+    def joins(self, mapping: Map, own: MeetingTurn, foe: int) -> bool:
+        """Whether two turns lead to one edge."""
+        links = mapping.links
+        return links[own.name[2]].edge == links[self.all[foe].name[2]].edge
+
+    def open_headway(self, mapping: Map, own: MeetingTurn) -> float:
+        """Seconds between two that go by a turn without a light."""
+        if own.always_stops:
+            return AT_SIGN if own.sign == STOP else IN_TURN
+        fast = any(self.joins(mapping, own, foe) and self.speed[foe] > FAST for foe in own.foes)
+        return JOINING if fast else max(LOOKING, own.headway) if own.foes else own.headway
 
 
 class Lanes:
@@ -85,6 +162,7 @@ class Lanes:
         self.residence, self.room = [nodes[link.end][1] for link in links], [nodes[link.end][2] for link in links]
         self.may_stop = {way.slot for way in ways.all if way.may_stop}
         self.limits = np.array(self.limit)
+        self.horizon = self.horizons(ways)
         # Seconds in which nobody gets from the begin of a lane near its stop line, one at least.
         self.least_drive = min((self.length[way.slot] // self.limit[way.slot] - 1 for way in ways.all), default=1)
         # By slot the cell from which on one may pass the line in a step.
@@ -93,6 +171,15 @@ class Lanes:
         self.sources = self.lanes_before(mapping, {slot for slot in first if self.is_short(slot)})
         # By turn the lanes on which those are who go on by it, as far as they are seen.
         self.seen_by = [[way.slot, *self.sources.get(way.slot, ())] for way in ways.all]
+
+    def horizons(self, ways: Ways) -> list[int]:
+        """By slot the seconds before the stop line from which on one who goes first is seen."""
+        found = [HORIZON] * len(self.length)
+        for way in ways.all:
+            for foe, gap in way.foes.items():
+                if gap.seconds_more >= STOP_MORE:
+                    found[ways.all[foe].slot] = STOP_HORIZON
+        return found
 
     def is_short(self, slot: int) -> bool:
         """Whether a lane is so short that who goes first is to be seen before it."""

@@ -16,7 +16,7 @@ from streetsim.model.named import columns, columns_of, one_of, rows_of
 from streetsim.model.reserved import ReservedLanes
 from streetsim.model.starting import SlowStarts
 from streetsim.model.stops import Visit
-from streetsim.model.waiting import GivingWay, LitWays, giving_way_of, lit_ways_of
+from streetsim.model.waiting import GivingWay, NodeWays, giving_way_of, node_ways_of
 
 VERSION = WITH_LIT_WAYS = 3
 Place = tuple[int, int]  # a link and a lane of it
@@ -140,7 +140,8 @@ class Map:
     timings: list[Json] = field(default_factory=list)  # the programs of lights at the road, as of model.timing
     # By light, of those whose plan a search made that is not to be trusted, why it is not.
     doubted_plans: dict[str, str] = field(default_factory=dict)
-    lit_ways: list[LitWays] = field(default_factory=list)  # who gives way at lights
+    lit_ways: list[NodeWays] = field(default_factory=list)  # who gives way at lights
+    open_ways: list[NodeWays] = field(default_factory=list)  # who gives way at other nodes
     version: int = VERSION  # of the file that it is of
 
     def __post_init__(self) -> None:
@@ -152,6 +153,11 @@ class Map:
     def invented(self) -> str:
         """What is to be said where vehicles are invented; empty where none is."""
         return TOLD_INVENTED if any(name.startswith(INVENTED) for name in self.cars) else ""
+
+    @property
+    def ways(self) -> list[NodeWays]:
+        """Who gives way by what happens, at all nodes."""
+        return [*self.lit_ways, *self.open_ways]
 
     @property
     def says_who_gives_way(self) -> bool:
@@ -194,7 +200,8 @@ class Map:
             "location": self.location,
             "actuated": self.actuated,
             **{name: value for name in WHERE_ANY if (value := getattr(self, name))},
-            **({"lit_ways": columns_of(LitWays, self.lit_ways)} if self.lit_ways else {}),
+            **({"lit_ways": columns_of(NodeWays, self.lit_ways)} if self.lit_ways else {}),
+            **({"open_ways": columns_of(NodeWays, self.open_ways)} if self.open_ways else {}),
             **({"full": asdict(self.full)} if self.full else {}),
             **({"starts": asdict(self.starts)} if self.starts else {}),
             **({"reserved": asdict(self.reserved)} if self.reserved else {}),
@@ -218,16 +225,16 @@ def refuse_outside(nodes: Sequence[Sequence[object]], links: Sequence[MapLink], 
         raise ValueError("a turn has a link that is not there")
 
 
-def refuse_ways_outside(lit_ways: Iterable[LitWays], nodes: int, links: int) -> None:
-    """ValueError where one who gives way at a light names a node, link, lane or way that is not there. nodes, links:
-    how many there are."""
-    for one in lit_ways:
+def refuse_ways_outside(node_ways: Iterable[NodeWays], nodes: int, links: int) -> None:
+    """ValueError where one who gives way names a node, link, lane or way that is not there. nodes, links: how many
+    there are."""
+    for one in node_ways:
         turns = [turn for way in one.ways for turn in way]
         numbers = {*one.stops, *(way for own, foe, _ in one.yields for way in (own, foe))}
         is_known = 0 <= one.node < nodes and numbers <= {*range(len(one.ways))}
         are_there = (0 <= link < links and lane in (0, 1) and 0 <= to < links for link, lane, to in turns)
         if not is_known or not all(are_there):
-            raise ValueError("who gives way at a light names what is not there")
+            raise ValueError("who gives way names what is not there")
 
 
 def map_from(path: FilePath, content: Json) -> Map:
@@ -243,7 +250,7 @@ def map_from(path: FilePath, content: Json) -> Map:
         fields["warning_rows"] = content.get("told", [])
         fields |= {name: content.get(name, {}) for name in ("location", "names", "sources", "doubted_plans")}
         fields |= {"kinds": content.get("vehicles", {}), "yields": giving_way_of(content.get("yields", ()))}
-        fields["lit_ways"] = lit_ways_of(content.get("lit_ways", {}))
+        fields |= {name: node_ways_of(content.get(name, {})) for name in ("lit_ways", "open_ways")}
         fields["full"] = fullness_of(content.get("full", {}))
         fields["end"] = content.get("end", 0)
         fields["starts"] = one_of(SlowStarts, content["starts"]) if "starts" in content else None
@@ -251,7 +258,8 @@ def map_from(path: FilePath, content: Json) -> Map:
         for name, kind in (("detectors", Detector), ("visits", Visit), ("switches", Switch)):
             fields[name] = rows_of(kind, content.get(name, ()))
         refuse_outside(fields["nodes"], fields["links"], fields["turns"])
-        refuse_ways_outside(fields["lit_ways"], len(fields["nodes"]), len(fields["links"]))
+        ways = [*fields["lit_ways"], *fields["open_ways"]]
+        refuse_ways_outside(ways, len(fields["nodes"]), len(fields["links"]))
         return Map(**fields)
     except (AttributeError, KeyError, TypeError, ValueError) as fault:
         raise Fault(f"{path}: not a map that streetsim-import wrote: {fault}") from None

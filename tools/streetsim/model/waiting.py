@@ -7,6 +7,7 @@ from streetsim.base.files import Json
 from streetsim.model.named import one_of, rows_of
 
 TurnKey = tuple[int, int, int]  # link, lane, next link
+ALWAYS_STOP = "sw"  # SUMO's states of connections without a light whose vehicles have to stop
 WIDER = 0.3  # seconds more for each further lane of a street that is crossed
 
 
@@ -76,8 +77,8 @@ class GivingWay:
 
 
 @dataclass(slots=True, frozen=True)
-class LitWays:
-    """Who gives way at a node with a light while both have green. A way is the turns of one movement under one signal;
+class NodeWays:
+    """Who gives way at a node, with a light while both have green. A way is the turns of one movement under one signal;
     others name it by its position."""
 
     node: int
@@ -85,21 +86,22 @@ class LitWays:
     # A way, one that goes before it, and whether that leads to another lane of the same street.
     yields: tuple[tuple[int, int, bool], ...]
     stops: tuple[int, ...] = ()  # the ways that may go in a red after a stop
+    signs: str = ""  # by way SUMO's state of its connections, e where one turns off right before left; empty at a light
 
 
-def ways_at(lit_ways: Iterable[LitWays], node: int) -> LitWays | None:
+def ways_at(lit_ways: Iterable[NodeWays], node: int) -> NodeWays | None:
     """Who gives way at one node with a light; none where nobody does."""
     return next((ways for ways in lit_ways if ways.node == node), None)
 
 
-def lit_ways_of(table: Json) -> list[LitWays]:
-    """Who gives way at lights, of a map's file."""
+def node_ways_of(table: Json) -> list[NodeWays]:
+    """Who gives way at nodes, of a map's file."""
     return [
-        LitWays(
+        NodeWays(
             entry.node, tuple(tuple((link, lane, following) for link, lane, following in way) for way in entry.ways),
-            tuple((own, foe, beside) for own, foe, beside in entry.yields), tuple(entry.stops),
+            tuple((own, foe, beside) for own, foe, beside in entry.yields), tuple(entry.stops), entry.signs,
         )
-        for entry in rows_of(LitWays, table)
+        for entry in rows_of(NodeWays, table)
     ]
 
 

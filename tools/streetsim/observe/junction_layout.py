@@ -10,6 +10,7 @@ from typing import Any
 from streetsim.model.mapping import Map, MapTurn, Place, Shape
 from streetsim.model.runs import TimedCommand
 from streetsim.model.service import PRIORITY, ROUNDABOUT, SIGNALS
+from streetsim.model.waiting import ALWAYS_STOP
 
 STRAIGHT_DEGREES, TURNAROUND_DEGREES = 45, 150  # degrees: less is straight on, more is a turn back
 
@@ -133,8 +134,10 @@ def set_rooms(mapping: Map, approaches: Mapping[str, Approach]) -> None:
 
 def movements_that_stop(mapping: Map) -> set[tuple[str, str]]:
     """The movements (edge, next edge) of those who always have to stop, as at a stop sign."""
-    paced = (turn for yielding in mapping.yields if yielding.pace is not None for turn in yielding.turns)
-    return {(mapping.links[link].edge, mapping.links[following].edge) for link, _, following in paced}
+    paced = [turn for yielding in mapping.yields if yielding.pace is not None for turn in yielding.turns]
+    signed = (pair for one in mapping.open_ways for pair in zip(one.signs, one.ways))
+    stopping = [turn for sign, way in signed if sign in ALWAYS_STOP for turn in way]
+    return {(mapping.links[link].edge, mapping.links[following].edge) for link, _, following in paced + stopping}
 
 
 def approaches_cut_short(mapping: Map, approaches: Mapping[str, Approach]) -> list[str]:

@@ -198,6 +198,8 @@ def figures_of(
     notes += run_notes(run_tables, clock)
     listed = settings.lights.listed_lights(mapping)
     crowded = crowded_works(run, mapping, steering.closures)
+    full, nearly_full = steering.yielding.full_passages()
+    yielding.crowded = {**yielding.crowded, **nearly_full}
     places = [*doubts_of_places(run_tables, yielding, kernel, listed), *crowded]
     beyond: list[str] = []
     if run_tables.junctions is not None:
@@ -210,7 +212,7 @@ def figures_of(
     doubts = [
         *trust.doubts(driven, rescues, censuses, run, mapping, listed),
         *trust.crowding_doubts(driven.vehicles, yielding.crowded),
-        *trust.gap_doubts(driven.vehicles, steering.yielding.full_passages()),
+        *trust.gap_doubts(driven.vehicles, full),
         *beyond,
         *doubts_of(run_tables.works.watched, mapping),
         *told_of_crowded(crowded),

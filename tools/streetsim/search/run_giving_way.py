@@ -28,7 +28,7 @@ def giving_session(
     rounds and turns that give way, turns that give way at lights, an open end, such lights or stops, or works."""
     until = settings.until
     session = session_of(program, run, until, without, **load)
-    gives_way = rounds and mapping.yields or mapping.lit_ways
+    gives_way = rounds and mapping.yields or mapping.ways
     if not (gives_way or settings.open_end or is_driven(settings) or closures_of(run, until)):
         return session
     ends = settings.open_end, settings.merging, settings.lights, settings.buses
@@ -37,12 +37,13 @@ def giving_session(
 
 def acts(giving: Giving) -> bool:
     """Whether lines are sent by what is seen while a run goes."""
-    return bool(giving.mapping.lit_ways) or acts_beside_lights(giving)
+    return bool(giving.mapping.ways) or acts_beside_lights(giving)
 
 
 def acts_beside_lights(giving: Giving) -> bool:
     """The same, but for those of turns that give way at lights."""
-    return is_driven(giving) or bool(giving.merging and closures_of(giving.run, giving.until))
+    without_light = bool(giving.mapping.open_ways)
+    return without_light or is_driven(giving) or bool(giving.merging and closures_of(giving.run, giving.until))
 
 
 def is_driven(settings: Settings | Giving) -> bool:

@@ -1,5 +1,5 @@
-"""For how long turns that give way at lights are hidden in a run: so that other plans can be run with these seconds,
-which costs much less than to decide second by second who goes."""
+"""For how long turns that give way at lights are hidden in a run, not those without a light: so that other plans can be
+run with these seconds, which costs much less than to decide second by second who goes."""
 from collections import defaultdict
 from collections.abc import Iterable, Iterator, Mapping, Sequence
 from dataclasses import dataclass, field
@@ -75,7 +75,7 @@ def hidden_shares(first: Iterable[Command], sent_lines: Iterable[SentLine], end:
 
     for line in sent_lines:
         command = line.line.command
-        if command["cmd"] == "signal":
+        if command["cmd"] == "signal" and (command["node"] in signals or not line.for_a_gap):
             if command["node"] in signals:
                 pass_until(command["node"], line.clock)
             if line.for_a_gap:

@@ -72,5 +72,6 @@ def doubts_of(session: TraciSession, waiting_by_minute: Sequence[WaitingCount]) 
     trips = trust.trips_at(session.clock, session.source.start(), rows)
     rescues, listed = session.steering.rescue.count.total(), session.settings.lights.listed_lights(mapping)
     doubts = trust.doubts(trips, rescues, waiting_by_minute, session.source, mapping, listed)
-    doubts += trust.crowding_doubts(trips.vehicles, session.yielding.crowded)
-    return [*doubts, *trust.gap_doubts(trips.vehicles, session.steering.yielding.full_passages())]
+    full, nearly_full = session.steering.yielding.full_passages()
+    doubts += trust.crowding_doubts(trips.vehicles, {**session.yielding.crowded, **nearly_full})
+    return [*doubts, *trust.gap_doubts(trips.vehicles, full)]

@@ -2,8 +2,9 @@
 from collections import Counter
 from collections.abc import Callable, Collection
 
+from streetsim.model.waiting import ALWAYS_STOP
 from streetsim.sumo.crossing import STOPS_FIRST, Flows
-from streetsim.sumo.net import MAJOR, STOPS, ZIPPER, NetConnection, SumoNet
+from streetsim.sumo.net import MAJOR, ZIPPER, NetConnection, SumoNet
 from streetsim.sumo.paces import Drivers
 
 SEEING = 6.4  # metres a second, with which one comes to its line who gives way and sees nobody
@@ -12,7 +13,6 @@ BRAKING = 4.5  # metres a second and second
 # Measured at lone junctions, where one is alone. The second for which one has to stand at a sign is in the pace there.
 LOOKING, TURNING = 0.35, 0.15
 AT_SIGN = 5.1  # seconds that one loses who stops at a sign on streets of 50 km/h and goes on at once
-STOPPING = STOPS + "w"  # states of connections whose vehicles have to stop
 # Seconds less than the first of a queue at a light that those who stop lose behind its line in the mean, beyond what
 # they lose here: of 1.95 and 2.2 chosen at lone lights with drawn arms, flows and turns (bench/run lone-trips).
 LESS = 2.2
@@ -40,7 +40,7 @@ def crossing_seconds(connection: NetConnection, net: SumoNet, drivers: Drivers) 
     inside = min(connection.speed or source_speed, max(source_speed, target_speed))
     if not (source_speed and target_speed and inside):
         return 0.0
-    if not connection.light and connection.state in STOPPING:
+    if not connection.light and connection.state in ALWAYS_STOP:
         return connection.metres * drivers.slowness(target_speed) + lost(drivers, source_speed, 0.0, target_speed)
     looks_out = not connection.light and connection.state not in (MAJOR, ZIPPER) and bool(net.yields_of(connection))
     slow = min(inside, SEEING) if looks_out else inside

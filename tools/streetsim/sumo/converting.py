@@ -8,14 +8,14 @@ from streetsim.base.files import Fault, Json
 from streetsim.base.report import Report
 from streetsim.model.mapping import Map, MapLink, MapTurn
 from streetsim.model.runs import Command
-from streetsim.sumo.conflicts import conflicts_of
+from streetsim.model.waiting import TurnKey
 from streetsim.sumo.constraints import warn_of_broken
-from streetsim.sumo.crossing import hourly_flows
+from streetsim.sumo.crossing import Flows, hourly_flows
 from streetsim.sumo.demand import DemandVehicle, enters, kinds_of
 from streetsim.sumo.detectors import detectors_on_cells
 from streetsim.sumo.full import fullness
 from streetsim.sumo.lane_capacity import crossings_of, weights_of_waiting
-from streetsim.sumo.lit_ways import lit_ways_of
+from streetsim.sumo.lit_ways import lit_ways_of, open_ways_of
 from streetsim.sumo.merges import merges_of
 from streetsim.sumo.net import STATIC, SumoNet, doubted_plans, lights_not_static
 from streetsim.sumo.network import Network, Options
@@ -78,24 +78,35 @@ def converted(
         warn_of_rules(net, network, programs_shown(net, days), report)
         warn_of_clashes(net, report)
         warn_of_broken(net, report)
-    network.lit_ways = lit_ways_of(net, network)
+    network.lit_ways, network.open_ways = lit_ways_of(net, network), open_ways_of(net, network)
     ends = {light: day[1][0] - 1 for light, day in days.items() if len(day) > 1}
     signals = signal_commands(net, network, report, ends) + day_lines(net, network, days, report)
     lights = [(light, command["node"]) for light, command in signals if "at" not in command]
-    network.yields = conflicts_of(net, network, flows)
     sensing = (light for light, program in programs_shown(net, days) if light in days and program.kind != STATIC)
     network.actuated = list(dict.fromkeys([*lights_not_static(net, (light for light, _ in signals)), *sensing]))
     network.switches = sorted((clock, light, program) for light, day in days.items() for clock, program in day)
     network.doubted_plans = doubted_plans(net)
     network.programs = kept_programs(net, lights)
     network.fixed = fixed_programs(net, lights, lights_of_riders(entered, driven, types, network))
-    giving_way = {giver.node for giver in network.yields}
+    giving_way = nodes_giving_way(network, flows)
     merges = [merge for merge in merges_of(net, network, flows) if merge.command["node"] not in giving_way]
     if doubted and flows:
         network.full = fullness(net, crossings, vehicles, merges, flows)
     turns = [command for _, command in signals] + [merge.command for merge in merges]
     commands = [network.load_command(), *turns, *entered]
     return network, lights, commands, [vehicle.name for vehicle in driven]
+
+
+def nodes_giving_way(network: Network, flows: Flows) -> set[int]:
+    """The nodes without a light where some of those who drive give way to others."""
+
+    def is_used(way: Sequence[TurnKey]) -> bool:
+        return any((network.links[link].edge, network.links[to].edge) in flows for link, _, to in way)
+
+    return {
+        one.node for one in network.open_ways
+        if any(is_used(one.ways[own]) and is_used(one.ways[foe]) for own, foe, _ in one.yields)
+    }
 
 
 def refuse_over_limits(network: Network, load: str, names: Sequence[str]) -> None:
@@ -132,7 +143,6 @@ def map_of(network: Network, lights: list[tuple[str, int]], names: list[str], re
         cars=names,
         options={name: value for name, value in asdict(network.options).items() if name != "part" or value},
         warnings=list(report.lines()),
-        yields=network.yields,
         kinds=network.kinds,
         location=network.location,
         actuated=network.actuated,
@@ -148,6 +158,7 @@ def map_of(network: Network, lights: list[tuple[str, int]], names: list[str], re
         timings=network.timings,
         doubted_plans=network.doubted_plans,
         lit_ways=network.lit_ways,
+        open_ways=network.open_ways,
     )
 
 

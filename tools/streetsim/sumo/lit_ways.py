@@ -1,18 +1,20 @@
-"""Who gives way to whom at lights while both have green: for the map, by which runs decide it second by second."""
+"""Who gives way to whom, at lights while both have green, and without a light: for the map, by which runs decide it
+second by second."""
 from collections import defaultdict
 from collections.abc import Collection, Iterable, Iterator, Mapping, Sequence
 
-from streetsim.model.waiting import LitWays, TurnKey
+from streetsim.model.waiting import ALWAYS_STOP, NodeWays, TurnKey
 from streetsim.sumo.crossing import ANY_GREEN, GREEN, OPEN, STOPS_FIRST
-from streetsim.sumo.net import NetConnection, SumoNet, connections_of
+from streetsim.sumo.net import MAJOR, ZIPPER, NetConnection, SumoNet, connections_of
 from streetsim.sumo.network import Network
 from streetsim.sumo.signals import light_of
 
+EQUALS, EQUALS_TURNING, STRAIGHT = "=", "e", "s"  # SUMO's state right before left, who turns off there; a direction
 WayKey = tuple[str, str, int | None]  # an edge, the next one, and the index in the light's state
 Yields = Mapping[int, Collection[int]]  # by request those that it gives way to
 
 
-def lit_ways_of(net: SumoNet, network: Network) -> list[LitWays]:
+def lit_ways_of(net: SumoNet, network: Network) -> list[NodeWays]:
     """Who gives way at each node whose light has a program, whatever the demand; nobody at edges whose share of
     permissive greens was surveyed: those shares are shown."""
     turns, number = turns_by_way(network), {name: at for at, name in enumerate(network.nodes)}
@@ -23,6 +25,40 @@ def lit_ways_of(net: SumoNet, network: Network) -> list[LitWays]:
         if junction in number
     )
     return [ways for ways in found if ways.yields or ways.stops]
+
+
+def open_ways_of(net: SumoNet, network: Network) -> list[NodeWays]:
+    """Who gives way at each junction without any light, whatever the demand. Junctions with a connection whose request
+    is not known are left out, and zippers, where both go by turns (merges)."""
+    turns, number = turns_by_way(network), {name: at for at, name in enumerate(network.nodes)}
+    found = (
+        open_ways_of_junction(number[junction], connections, net.yields.get(junction, {}), turns)
+        for junction, connections in connections_of(net).items()
+        if junction in number and not any(one.light or one.request is None for one in connections)
+    )
+    return [ways for ways in found if ways.yields or any(sign in ALWAYS_STOP for sign in ways.signs)]
+
+
+def open_ways_of_junction(
+    node: int, connections: Sequence[NetConnection], yields: Yields, turns: Mapping[WayKey, list[TurnKey]]
+) -> NodeWays:
+    """Who gives way at one node without a light; lanes of one edge do not give way to each other."""
+    by_request = {connection.request: connection for connection in connections}
+    signs: dict[WayKey, str] = {}
+    pairs: dict[tuple[WayKey, WayKey], None] = {}
+    for request, connection in by_request.items():
+        foes = (by_request[at] for at in sorted(yields.get(request or 0, ())) if at in by_request)
+        met = [one for one in foes if one.source != connection.source and not connection.state == one.state == ZIPPER]
+        if met or connection.state in ALWAYS_STOP:
+            turns_off = connection.state == EQUALS and connection.direction != STRAIGHT
+            signs[way_key(connection)] = EQUALS_TURNING if turns_off else connection.state
+        pairs.update(dict.fromkeys((way_key(connection), way_key(foe)) for foe in met))
+    named = dict.fromkeys([key for pair in pairs for key in pair] + [*signs])
+    known = [key for key in named if turns.get(key)]
+    places = {key: place for place, key in enumerate(known)}
+    found = sorted((places[own], places[foe], False) for own, foe in pairs if own in places and foe in places)
+    letters = "".join(signs.get(key, MAJOR) for key in known)
+    return NodeWays(node, tuple(tuple(turns[key]) for key in known), tuple(found), (), letters)
 
 
 def turns_by_way(network: Network) -> dict[WayKey, list[TurnKey]]:
@@ -37,13 +73,13 @@ def turns_by_way(network: Network) -> dict[WayKey, list[TurnKey]]:
 def ways_of_junction(
     node: int, connections: Sequence[NetConnection], net: SumoNet, turns: Mapping[WayKey, list[TurnKey]],
     surveyed: Collection[str],
-) -> LitWays:  # fmt: skip
+) -> NodeWays:  # fmt: skip
     """Who gives way at one node, by all connections of its junction; nobody where no light of it has a program, or it
     is not known who gives way to whom. surveyed: edges that give way to nobody."""
     light = light_of(connections, net)
     ours = [connection for connection in connections if connection.light in (light, None)]
     if light is None or any(connection.request is None for connection in ours):
-        return LitWays(node, (), ())
+        return NodeWays(node, (), ())
     states = [state for program in net.programs_of(light) for _, state in program.phases]
     signs = {connection.request: signs_of(connection, states) for connection in ours}
     number: dict[WayKey, int] = {}
@@ -57,7 +93,7 @@ def ways_of_junction(
     stopping_first = (connection for connection in ours if STOPS_FIRST in signs[connection.request])
     stopping = {key for key in map(way_key, stopping_first) if turns.get(key)}
     stops = sorted(number.setdefault(key, len(number)) for key in sorted(stopping, key=str))
-    return LitWays(
+    return NodeWays(
         node, tuple(tuple(turns[key]) for key in number), tuple((*pair, yields[pair]) for pair in sorted(yields)),
         tuple(stops),
     )

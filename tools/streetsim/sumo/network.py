@@ -13,7 +13,7 @@ from streetsim.model.runs import Command
 from streetsim.model.reserved import ReservedLanes
 from streetsim.model.starting import SlowStarts
 from streetsim.model.stops import Visit
-from streetsim.model.waiting import GivingWay, LitWays, TurnKey
+from streetsim.model.waiting import GivingWay, NodeWays, TurnKey
 from streetsim.sumo.bundles import LaneKey, bundles_of, closing_lanes, next_edges
 from streetsim.sumo.crossing import Flows
 from streetsim.sumo.driver_words import factor_of, refuse_unknown_edges, refuse_unknown_streets
@@ -100,7 +100,8 @@ class Network:
         self.fixed: list[Json] = []  # programs of lights without detectors, that buses and others pass
         self.actuated: list[str] = []  # lights that SUMO times by detectors
         self.programs: list[Json] = []  # of these, as programs.kept_programs has them
-        self.lit_ways: list[LitWays] = []  # who gives way at lights
+        self.lit_ways: list[NodeWays] = []  # who gives way at lights
+        self.open_ways: list[NodeWays] = []  # who gives way at other nodes
         self.timings: list[Json] = []  # of all lights, as timings.timings_of has them, written
         self.doubted_plans: dict[str, str] = {}  # by light, of those of searches that are not to be trusted, why
         self.full = Fullness()  # lanes that are nearly full by the demand

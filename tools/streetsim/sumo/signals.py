@@ -10,7 +10,7 @@ from streetsim.base.report import Report, first_few
 from streetsim.model.mapping import Map, MapTurn
 from streetsim.model.runs import Command
 from streetsim.model.timing import spans_of, states_of
-from streetsim.model.waiting import LitWays, TurnKey, ways_at
+from streetsim.model.waiting import NodeWays, TurnKey, ways_at
 from streetsim.sumo.crossing import ANY_GREEN, GREEN, OPEN
 from streetsim.sumo.driver_words import Pairs, cut_at, measured_of, with_cut
 from streetsim.sumo.greens import TWO_PARTS, hidden_middle, hidden_start
@@ -44,7 +44,7 @@ class LitNode:
     report: Report
     cut: float = 0.0  # seconds that are cut from greens, in the mean over nodes
     shares: Pairs = ()  # of permissive greens that were surveyed: (edge, share)
-    ways: LitWays | None = None  # who gives way, as runs decide second by second; None: nobody does
+    ways: NodeWays | None = None  # who gives way, as runs decide second by second; None: nobody does
 
     def states(self) -> list[str]:
         """The light's state, SUMO's letters, in each second of its cycle. Fault where each_second raises one."""
@@ -53,7 +53,7 @@ class LitNode:
     def shown_seconds(self, states: Sequence[str]) -> ShownSeconds:
         """What is shown of permissive greens: all of those in which some give way, as runs decide who goes; the last
         share of those that were surveyed. states: as states gives them."""
-        ways = self.ways or LitWays(self.node, (), ())
+        ways = self.ways or NodeWays(self.node, (), ())
         seconds_shown: ShownSeconds = dict(shown_alone(ways, self.light, self.turns, states))
         known = {edge: share for edge, share in self.shares}
         for edge in known.keys() & {*self.edges.values()}:
@@ -240,7 +240,7 @@ def check_states(light: str, states: Sequence[str], turns: Iterable[Turn | MapTu
 
 
 def shown_alone(
-    ways: LitWays, light: str, turns: Sequence[AtLight], states: Sequence[str]
+    ways: NodeWays, light: str, turns: Sequence[AtLight], states: Sequence[str]
 ) -> Iterator[tuple[int, dict[int, int]]]:
     """What is shown, by index, of permissive greens in which nobody has green who goes first: as of main ones; of
     others nothing is said, so that they are whole. states: of the light, one for each second."""
