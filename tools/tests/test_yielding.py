@@ -6,6 +6,7 @@ from types import SimpleNamespace
 import crosses
 from seen import blocks_of, made
 from support import DATA, PROGRAM, Case, needs_simulator
+from test_rounds import junction, routes
 from streetsim.base.arrays import numpy as np
 from streetsim.control.settings import Settings
 from streetsim.control.yielding import AFTER_STAND, SNEAK_SECONDS, YieldingTurns
@@ -297,12 +298,23 @@ class Cross(Case):
     @needs_simulator
     def test_lines_replay(self):
         """A run's lines as those of a file, without the controller, give the same record."""
-        run, mapping = self.imported("cross1", crosses.shared(30) | {("e", "straight"): 500, ("e", "left"): 100})
+        self.replay(*self.imported("cross1", crosses.shared(30) | {("e", "straight"): 500, ("e", "left"): 100}))
+
+    @needs_simulator
+    def test_lines_replay_without_a_light(self):
+        departs = [*((at, "w") for at in range(0, 1200, 7)), *((at, "s") for at in range(0, 1200, 9))]
+        files = self.write("net.net.xml", junction()), "--routes", self.write("demand.rou.xml", routes(departs))
+        self.tool("import", *files, "-o", self.folder / "run.jsonl", "--map", self.folder / "map.json")
+        self.replay(read_own_run(self.folder / "run.jsonl"), read_map(self.folder / "map.json"))
+
+    def replay(self, run, mapping):
+        """Makes a run, and one of its lines."""
         live, plain = Record(), Record()
         kernel, _ = made(PROGRAM, run, mapping, Settings(1500), live)
         lines = [(one.clock, one.line) for one in kernel.sent_lines]
         self.assertGreater(sum(one.for_a_gap for one in kernel.sent_lines), 50)
-        made(PROGRAM, with_lines(run, lines), replace(mapping, lit_ways=[]), Settings(1500), plain)
+        without = replace(mapping, lit_ways=[], open_ways=[])
+        made(PROGRAM, with_lines(run, lines), without, Settings(1500), plain)
         self.assertEqual(live.rows, plain.rows)
 
 

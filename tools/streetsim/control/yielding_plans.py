@@ -141,6 +141,7 @@ class PlansInForce:
         # Clock, node and number of the plan of the next changes of lanes on which some meet others.
         self.due: list[tuple[int, int, int]] = []
         self.number: dict[int, int] = {}
+        self.is_constant = [False] * len(ways.all)  # whether the plan of a turn's node has one phase, with it green
 
     def note(self, clock: int, command: Command) -> None:
         """Takes a command that is sent at a clock, where it sets the light of one of the nodes."""
@@ -150,8 +151,10 @@ class PlansInForce:
         if key not in self.plan_by_key:
             self.plan_by_key[key] = NodePlan(command, self.turns_at[node], self.ways)
         self.plans[node], self.offsets[node] = self.plan_by_key[key], command.get("offset", 0)
+        [first, *further] = self.plans[node].phases
         for turn in self.turns_at[node]:
             self.set_mode(turn, AS_PLANNED)
+            self.is_constant[turn] = not further and turn in first.greens
         self.number[node] = self.number.get(node, 0) + 1
         heapq.heappush(self.due, (clock, node, self.number[node]))
 
@@ -189,11 +192,11 @@ class PlansInForce:
 
     def is_green(self, turn: int) -> bool:
         """Whether the plan has a turn green now."""
-        return turn in self.phase(turn).greens
+        return self.is_constant[turn] or turn in self.phase(turn).greens
 
     def may_come(self, turn: int) -> bool:
         """Whether somebody may come by a turn now."""
-        return turn in self.phase(turn).coming
+        return self.is_constant[turn] or turn in self.phase(turn).coming
 
     def meets(self, turn: int) -> bool:
         """Whether a turn is green now and somebody may come before whom it gives way."""

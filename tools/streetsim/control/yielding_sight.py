@@ -45,7 +45,8 @@ class LanesSeen:
         self.seconds: dict[int, float] = {}  # by turn until the first one comes who may go on
         self.comes_on: set[int] = set()  # turns whose first one is at its line, or comes too fast to stop there
         self.since_passed: dict[int, int] = {}  # by turn seconds since the last one passed its line, whole
-        self.rows: dict[int, tuple[int, int]] = {}  # by lane: the first row of the second, and that behind its last
+        # By lane the rows of the second: the first, that of the first one who passed its line, that behind the last.
+        self.rows: dict[int, tuple[int, int, int]] = {}
         if not slots:
             return
         self.car, self.cell, self.speed = (column.tolist() for column in (block.car, block.cell, block.speed))
@@ -53,8 +54,9 @@ class LanesSeen:
         bounds = zip(wanted.tolist(), *(block.slot.searchsorted(wanted, side).tolist() for side in ("left", "right")))
         for slot, begin, end in bounds:
             if begin < end:
-                self.rows[slot] = begin, end
-                self.see_lane(slot, begin, end)
+                first_inside = self.see_inside(slot, begin, end)
+                self.rows[slot] = begin, first_inside, end
+                self.see_lane(slot, begin, first_inside, end - first_inside >= self.lanes.room[slot])
         for slot in self.lanes.sources.keys() & slots:
             for other in self.lanes.sources[slot]:
                 if other in self.rows:
@@ -69,13 +71,12 @@ class LanesSeen:
         driving = (cells_left - 1) / (self.lanes.limit[slot] - DAWDLED)
         return driving + (STARTING if speed == 0 and cells_left > 1 else 0.0)
 
-    def see_lane(self, slot: int, begin: int, end: int) -> None:
+    def see_lane(self, slot: int, begin: int, end: int, is_full: bool) -> None:
         """Takes those of a lane, from the stop line back, by rows of the second. Where the first one stays nobody comes
-        behind it."""
-        limit, first_inside = self.lanes.limit[slot], self.see_inside(slot, begin, end)
-        is_full, turns_left = end - first_inside >= self.lanes.room[slot], self.ways.turn_count[slot]
+        behind it. is_full: no more can pass its line."""
+        limit, turns_left = self.lanes.limit[slot], self.ways.turn_count[slot]
         farthest = self.lanes.length[slot] - self.lanes.horizon[slot] * limit
-        for row in range(begin, first_inside):
+        for row in range(begin, end):
             car, cell, speed = self.car[row], self.cell[row], self.speed[row]
             if cell < farthest:
                 break
@@ -104,23 +105,27 @@ class LanesSeen:
             self.since_passed[turn] = min(ago, self.since_passed.get(turn, ago))
         return row
 
-    def see_before(self, slot: int, source: int, begin: int, end: int) -> None:
+    def see_before(self, slot: int, source: int, begin: int, first_inside: int, end: int) -> None:
         """Takes those into the seconds to a stop line of a short lane who come there from a lane before, by rows of the
         second."""
-        link = slot >> 1
         drive = self.lanes.length[slot] / (self.lanes.limit[slot] - DAWDLED)
         farthest = self.lanes.length[source] - HORIZON * self.lanes.limit[source]
-        for row in range(begin, end):
-            car, cell, speed = self.car[row], self.cell[row], self.speed[row]
-            if cell >= 0 and (speed == 0 or cell < farthest):
-                continue
-            following, after = self.links_ahead.links(car, source >> 1)
-            turn = self.ways.number.get((slot, after), NO_TURN)
-            if following == link and turn != NO_TURN and self.may_come(turn):
-                inside = max(0, (cell & READY) - self.clock)
-                cells_left = self.lanes.length[source] - cell
-                there = inside if cell < 0 else self.to_line(source, cells_left, speed) + self.lanes.residence[source]
+        for row in range(first_inside, end):
+            if (turn := self.turn_behind(slot, source, self.car[row])) != NO_TURN:
+                self.note(turn, max(0, (self.cell[row] & READY) - self.clock) + drive)
+        for row in range(begin, first_inside):
+            cell, speed = self.cell[row], self.speed[row]
+            if cell < farthest:
+                break
+            if speed and (turn := self.turn_behind(slot, source, self.car[row])) != NO_TURN:
+                there = self.to_line(source, self.lanes.length[source] - cell, speed) + self.lanes.residence[source]
                 self.note(turn, there + drive)
+
+    def turn_behind(self, slot: int, source: int, car: int) -> int:
+        """The number of the turn by which a vehicle of a lane before goes on behind a lane, where it may come."""
+        following, after = self.links_ahead.links(car, source >> 1)
+        turn = self.ways.number.get((slot, after), NO_TURN) if following == slot >> 1 else NO_TURN
+        return turn if turn != NO_TURN and self.may_come(turn) else NO_TURN
 
     def note(self, turn: int, seconds: float) -> None:
         """Notes that one comes by a turn in some seconds."""
