@@ -443,7 +443,7 @@ def main_results(argv: list[str]) -> int | None:
 FIRST = ""  # what stands before the first heading of a page
 SECTIONS = {  # of pages of tools/: the headings of their walks
     "../README": ("Quick start",),
-    "README": ("A walk of ten minutes",),
+    "README": ("A walk of ten minutes", "From a sheet to an answer"),
     "WORKS": ("A walk of two minutes",),
     "ACTUATED": (FIRST,),
     "BUSES": (FIRST, "Lights that wait for buses"),

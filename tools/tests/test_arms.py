@@ -137,7 +137,7 @@ class Answers(unittest.TestCase):
     def test_levels_that_are_doubted_are_not_called_sure(self):
         sure, doubted = self.plans()[0], self.plans("full")[0]
         self.assertEqual(levels_of(sure, WHEN), "Junction C has level of service B.")
-        self.assertEqual(levels_of(doubted, WHEN), "Levels of service of one of one junction are doubted.")
+        self.assertEqual(levels_of(doubted, WHEN), "Its level of service is doubted.")
         doubted.rows["junctions", *WHEN]["E",] = row(("E",))
         told = "Every other junction has level of service B or better; the worst is Junction E. Levels of service of "
         self.assertIn(told, levels_of(doubted, WHEN))
@@ -151,18 +151,19 @@ class Answers(unittest.TestCase):
             runs.rows |= {("junctions", 900, 1800): rows, ("movements", 900, 1800): runs.rows["movements", *WHEN]}
             return state_answer(runs, worst_interval([runs]))
 
-        told = "a vehicle loses 25.0 ± 0.0 s at a junction on average, 30.0 ± 0.0 s in the worst time, 0:15 to 0:30 "
+        told = "A vehicle loses 25.0 ± 0.0 s at a junction on average, 30.0 ± 0.0 s in the worst time, 0:15 to 0:30 "
         told += "(±: 95 % interval of the mean by dawdling alone), and with the worst movement, from the west "
         told += "to the "
-        self.assertEqual(said(STRAIGHT, delay=30.0), f"It flows: {told}east at Junction C, 20 s (B).")
+        self.assertEqual(said(STRAIGHT, delay=30.0), ["It flows.", f"{told}east at Junction C, 20 s (B)."])
         of_left = f"{told}north at Junction C, 90 s (F)."
-        self.assertEqual(said(STRAIGHT, LEFT, delay=30.0), f"It flows, but for single movements: {of_left}")
+        self.assertEqual(said(STRAIGHT, LEFT, delay=30.0), ["It flows, but for single movements.", of_left])
         doubted = replace(LEFT, doubt="v/c 1.09")
         self.assertEqual(
             said(STRAIGHT, doubted, delay=30.0),
-            f"Undecided, as what decides is doubted; here it flows, but for single movements: {of_left}",
+            ["Undecided, as what decides is doubted; here it flows, but for single movements.", of_left],
         )
-        self.assertTrue(said(STRAIGHT, delay=60.0).startswith("It does not flow: a vehicle loses 40.0 ± 0.0 s"))
+        flows, loses = said(STRAIGHT, delay=60.0)
+        self.assertEqual((flows, loses[:34]), ("It does not flow.", "A vehicle loses 40.0 ± 0.0 s at a "))
 
     def test_bars_by_lane(self):
         """Movements with the same queues have one bar; a pocket has its own room."""

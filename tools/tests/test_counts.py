@@ -2,11 +2,13 @@
 import gzip
 import io
 import json
+import os
 import random
 import sys
 import unittest
 from contextlib import redirect_stderr, redirect_stdout
 from importlib.util import find_spec
+from itertools import pairwise
 from types import SimpleNamespace
 from unittest import mock
 
@@ -16,13 +18,15 @@ from support import DATA, FORK, MAP, NUMBERED, PROGRAM, Case, lane, needs_packag
 from streetsim.base.files import Fault
 from streetsim.base.report import Report
 from streetsim.cli import compare, demand
-from streetsim.demand import checking, correcting, demanding, judging, making, matrices, ratios, reading, science, zones
+from streetsim.demand import (
+    candidates, checking, correcting, demanding, judging, making, matrices, ratios, reading, science, zones,
+)  # fmt: skip
 from streetsim.demand.candidates import End, Pair, Way, with_given_routes
 from streetsim.demand.cells import clock_of
 from streetsim.demand.correcting import corrected_counts, full_edges
 from streetsim.demand.fitting import Expecting, smallest_vehicles
 from streetsim.demand.judging import ComparedCount, differences_of, is_part_of, without_parts
-from streetsim.demand.passing import CountsByEdges, Slices
+from streetsim.demand.passing import CountsByEdges, Slices, slices_of
 from streetsim.demand.pictures import draw_fit
 from streetsim.demand.seen import NEVER, Visits, edge_rows, movement_rows, passed_by_rows, passed_in
 from streetsim.demand.values import Count, Ratio
@@ -644,6 +648,68 @@ class Fit(Tool):
         self.assertIn("40 vehicles from 0 to 900 s", out)
         with self.assertRaisesRegex(Fault, "--smallest is of counts alone"):
             self.demand(FORK, "--smallest", "--flows", counts)
+
+    def test_a_part_of_the_way_to_the_smallest_demand(self):
+        """What is expected then lies as far between what counts alone give and the smallest numbers."""
+        numpy, scipy = science.numpy_and_scipy()
+        pairs = [Pair(f"from {at}", f"to {at}", {}, {}) for at in range(3)]
+        ways = [Way(at, (2 * at, 2 * at + 1), 60.0, 1.0, 60.0, 1.0) for at in range(3)]
+        passing, targets = scipy.sparse.csr_matrix([[1.0, 1, 0], [1, 0, 1]]), numpy.array([100.0, 100.0])
+        found = [
+            Expecting(ways, pairs, Slices((0, 900), False), 0.05, part).vehicles_by_counts(passing, targets)
+            for part in (0.0, 0.5, 1.0)
+        ]
+        self.assertEqual([round(number) for number in found[2]], [100, 0, 0])
+        self.assertGreater(found[0].sum(), 120)
+        numpy.testing.assert_allclose(found[1], (found[0] + found[2]) / 2, atol=1e-5)
+
+    def chain(self, *words):
+        """The demand of a street of seven edges of which one is counted; what is told, and where trips begin and
+        end."""
+        names = "abcdefg"
+        edges = [(name, name.upper(), chr(ord(name) + 1).upper(), [lane(name, 0)]) for name in names]
+        street = net(edges, [(name, 0, next_name, 0, "") for name, next_name in pairwise(names)])
+        counts = self.write("c.csv", HEAD + "0,900,d,,90\n")
+        out, error = self.demand(street, "--counts", counts, *words)
+        return out + error, {(row["from"], row["to"]) for row in self.table("pairs.csv") if float(row["vehicles"])}
+
+    def test_few_counts_have_trips_from_any_edge(self):
+        """One edge of seven is counted: trips begin and end on any edge, where no word says otherwise."""
+        told, ends = self.chain("--runs", 0)
+        with mock.patch.dict(os.environ, {"STREETSIM_PROGRAM": "/no/program"}):
+            self.assertIn("(--ends); no simulator is there to tell whether it locks", self.chain()[0])
+        self.assertNotIn("few edges are counted", told)
+        self.assertGreater(len(ends), 1)
+        self.assertEqual(self.chain("--runs", 0, "--ends", "fringe")[1], {("a", "g")})
+
+    def test_ends_by_the_class_of_their_streets(self):
+        """Two edges that lead in at 50 and 30 km/h, and one of 100 m within: metres a second, and seconds."""
+        edges = [("a", "A", "C", [lane("a", 0, speed=13.89)]), ("b", "B", "C", [lane("b", 0, speed=8.33)])]
+        edges.append(("c", "C", "D", [lane("c", 0, metres=100, speed=8.33)]))
+        town = read_town(self.write("n.net.xml", net(edges, [])), [], Options(), Report())
+        found = candidates.expected_ends(town.graph, town.net, [town.graph.number[name] for name in "ab"])
+        by_name = {name: (round(end.weight, 2), end.outside) for name, end in zip(town.graph.edges, found, strict=True)}
+        self.assertEqual(by_name, {"a": (13.89, True), "b": (8.33, True), "c": (12.0, False)})
+
+    def test_a_demand_that_locks_is_made_smaller(self):
+        """Runs of the larger ones lock: halfway to the smallest, and then the smallest, which is the best."""
+        judged = SimpleNamespace(meets_criteria=True, good_share=1.0, greatest_difference=0.0)
+        inputs, asked = demanding.DemandInputs(counts=("c.csv",)), []
+
+        def run(basis, inputs, ground, number, fitted):
+            asked.append(inputs.smallness)
+            ran = SimpleNamespace(arrivals=[1], rescues=9 * (inputs.smallness < 1), most_waiting=(0, 0), at_works=())
+            return correcting.Attempt(number, inputs.smallness, [None], fitted, judged, None, ran, [], {})
+
+        basis = SimpleNamespace(town=SimpleNamespace(graph=None), counts=[], free_costs=lambda: None)
+        with mock.patch.multiple(correcting, try_demand=run, fit_to_counts=mock.DEFAULT):
+            tried = list(correcting.try_demands(basis, inputs, None, 3, None, lambda text: None))
+        self.assertEqual(asked, [0.0, 0.5, 1.0])
+        self.assertIs(max(tried, key=correcting.Attempt.rank), tried[2])
+        self.assertIn("run 2, 50 % of the way to the smallest demand: 1 vehicles", tried[1].line())
+
+    def test_what_leads_in_is_a_quarter_of_an_hour_at_most(self):
+        self.assertEqual(slices_of([7200, 3600], 1700.0, 0).bounds, (2700, 3600, 7200))
 
     def test_pairs_without_a_way_are_told(self):
         """Those of a matrix that no way joins."""

@@ -1,4 +1,5 @@
 """Doubts with a place: their words, which rows they are of, and how they travel."""
+import re
 import unittest
 from dataclasses import replace
 
@@ -119,8 +120,19 @@ class AtAJunction(Case):
         page = self.folder / "page.html"
         self.tool("report", out, "--interval", 27_900, "-o", page)
         first = page.read_text().partition('id="junctions"')[0]
-        self.assertIn("Mill Road into Main Street, from the north, at ", first)
+        self.assertIn("Mill Road into Main Street, from the north to the east, at ", first)
         self.assertNotIn("nothing that a run checks of itself speaks against it", first)
+        self.a_wide_interval_is_doubted_by_its_quarters(run, mapped)
+
+    def a_wide_interval_is_doubted_by_its_quarters(self, run, mapped):
+        """Rows of two hours, whose mean is below the marks, say when it is full; the numbers are of the two hours."""
+        out = self.folder / "wide"
+        words = "--until", 28_800, "--junctions", 7200, "--every", 0, "--out", out, "--program", PROGRAM
+        last = self.tool("run", run, "--map", mapped, *words)[0].splitlines()[-1]
+        rows = [row for row in read_table(f"{out}/movements.csv", MOVEMENTS) if row["approach"] == "Nin"]
+        [left] = [row for row in rows if (int(row["begin"]) // 3600, row["movement"]) == (6, "L")]
+        self.assertLess(float(left["v_c"]), float(re.match(r"v/c (\d\.\d\d), 7:\d\d to ", left["doubt"])[1]))
+        self.assertIn("from the north to the east, at Main Street / Mill Road, 7:", last)
 
 
 class Windows(unittest.TestCase):

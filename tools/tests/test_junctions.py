@@ -25,6 +25,7 @@ from streetsim.observe.junction_facing import junctions_with_facing_streets
 from streetsim.observe.junction_layout import Approach, Greens, approaches_of, movements_that_stop, turn_name
 from streetsim.observe.junction_measures import Interval, Losses, stop_loss, weighted_mean_losses
 from streetsim.observe.junction_rows import JunctionTables, queue_columns, queue_figures, spill_columns
+from streetsim.observe.junctions import part_of
 from streetsim.observe.lane_utilisation import UtilisationCalculator
 from streetsim.observe.passages import Passages
 from streetsim.observe.shown import ShownPlans
@@ -400,8 +401,13 @@ class ByHand(unittest.TestCase):
         self.assertEqual((row["capacity_per_hour"], row["error_s"]), ("1560", ""))
         [approach], [junction] = made.approaches, made.junctions
         self.assertEqual((approach[APPROACHES.index("los")], junction[JUNCTIONS.index("los")]), ("A", "A"))
-        self.assertEqual(junction[JUNCTIONS.index("nearly_full")], "1.10")
+        self.assertEqual(junction[JUNCTIONS.index("nearly_full")], row["v_c"])  # one number, of the run
 
+
+    def test_parts_of_wide_intervals(self):
+        """The longest that divide them, of five minutes to a quarter of an hour; else they are not parted."""
+        found = {interval: part_of(interval) for interval in (300, 900, 3600, 2000, 1801)}
+        self.assertEqual(found, {300: 300, 900: 900, 3600: 900, 2000: 500, 1801: 1801})
 
     def test_rooms(self):
         """One lane leads to two: that which goes straight on has the room of both edges, the pocket its own."""

@@ -54,7 +54,7 @@ class Told(Crossing):
     def test_movements(self):
         names = self.names()
         for edge, to, told in (
-            ("n", "e", "Hill Street into Market Street, from the north"),
+            ("n", "e", "Hill Street into Market Street, from the north to the east"),
             ("n", "s", "along Hill Street, from the north to the south"),
             ("n", "w", "Hill Street to the west, from the north"),
             ("i", "e", "from the west into Market Street"),
@@ -153,7 +153,7 @@ class Written(Crossing):
     def test_the_page(self):
         self.tool("report", self.out, "-o", self.folder / "page.html")
         text = (self.folder / "page.html").read_text()
-        self.assertIn("Hill Street into Market Street, from the north", text)
+        self.assertIn("Hill Street into Market Street, from the north to the east", text)
         self.assertIn("Hill Street / Market Street", text)
 
 

@@ -46,9 +46,9 @@ def add_inputs(tool_parser: argparse.ArgumentParser) -> None:
         add_files(tool_parser, f"--{name}", help_text)
     add_attribute(tool_parser)
     tool_parser.add_argument(
-        "--ends", choices=["fringe", "all"], default="fringe",
-        help="where trips without zones begin and end: where the network does, if it does (fringe), or on any edge "
-        "(all; default %(default)s)",
+        "--ends", choices=["fringe", "all"],
+        help="where trips without zones begin and end: where the network does, if it does (fringe), or on any edge, by "
+        "the class of its street (all; default: all where less than a fifth of the edges are counted, else fringe)",
     )
 
 
@@ -68,11 +68,12 @@ def add_fit(tool_parser: argparse.ArgumentParser) -> None:
     )
     tool_parser.add_argument(
         "--smallest", action="store_true",
-        help="as few vehicles as meet the counts, for few counts, or where a larger demand locks",
+        help="as few vehicles as meet the counts (without it: where a run of a larger demand locks)",
     )
     tool_parser.add_argument(
-        "--runs", type=integer_within(0, 100), default=0, metavar="N",
-        help="maximum runs of the fit, after each of which it is corrected by what passed (default %(default)s)",
+        "--runs", type=integer_within(0, 100), metavar="N",
+        help="maximum runs of the fit, after each of which it is corrected by what passed (default: 3 where less than "
+        "a fifth of the edges are counted, else 0)",
     )
     add_rounds(tool_parser)
     tool_parser.add_argument(

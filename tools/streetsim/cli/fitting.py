@@ -1,6 +1,7 @@
 """Makes the demand of streetsim-demand, by its parsed arguments."""
 import argparse
 from collections.abc import Sequence
+from contextlib import suppress
 from dataclasses import replace
 from itertools import chain
 
@@ -14,7 +15,7 @@ from streetsim.cli.importing import options_of
 from streetsim.cli.words import refuse_half_run
 from streetsim.demand import demanding, making
 from streetsim.demand.demanding import DemandInputs
-from streetsim.demand.making import DemandOutputs, DemandRuns
+from streetsim.demand.making import FEW_RUNS, DemandOutputs, DemandRuns
 from streetsim.search.route_loading import read_town
 
 
@@ -41,6 +42,9 @@ def fit_by(args: argparse.Namespace) -> int:
         show_step("fitting")
         fitted = demanding.fit_to_counts(basis, inputs, basis.free_costs())
         making.print_input_notes(basis, fitted)
+        if basis.has_few and args.runs is None:
+            running = usual_runs(args)
+            making.print_few(bool(args.ends), bool(running))
         with Stopping() as stopping:
             tried = []
             if running:
@@ -48,8 +52,16 @@ def fit_by(args: argparse.Namespace) -> int:
         demand = making.best_demand(basis, inputs, fitted, tried)
         show_step("writing")
         note = program.proof_note(running.program) if running else {}
-        making.write_result(outputs, demand, making.setting_of(inputs, demand, args.runs) | note)
+        making.write_result(outputs, demand, making.setting_of(inputs, demand, running.runs if running else 0) | note)
     return making.print_result(demand)
+
+
+def usual_runs(args: argparse.Namespace) -> DemandRuns | None:
+    """How a demand of few counts is run where no word says so, as a larger one than drives may lock; None where no
+    program is found. Fault for one that is given and is none."""
+    with suppress(*([] if args.program else [Fault])):
+        return DemandRuns(program.find_program(args.program), FEW_RUNS, args.rounds)
+    return None
 
 
 def inputs_of(args: argparse.Namespace) -> DemandInputs:
@@ -58,8 +70,7 @@ def inputs_of(args: argparse.Namespace) -> DemandInputs:
     files = {name: tuple(paths_in(getattr(args, name))) for name in names}
     return DemandInputs(
         matrices=tuple(paths_in(args.matrix)), attribute=args.attribute, ways=args.ways, most=args.most,
-        everywhere=args.ends == "all", error=args.error, seed=args.seed,
-        smallest=args.smallest, **files,
+        ends=args.ends, error=args.error, seed=args.seed, smallness=float(args.smallest), **files,
     )  # fmt: skip
 
 
@@ -75,7 +86,7 @@ def check_words(args: argparse.Namespace, inputs: Sequence[str]) -> None:
         raise Fault("--smallest is of counts alone: give --counts, and no --matrix or --flows")
     if args.end is not None:
         raise Fault("--end is of files of vehicles: a demand ends with the last period of its counts, matrix or flows")
-    if args.ends == "all" and (args.zones or args.matrix or args.flows):
+    if args.ends and (args.zones or args.matrix or args.flows):
         raise Fault("--ends says where trips begin without zones: give no --zones, --matrix or --flows beside")
     outputs = {"-o": args.output, "--run": args.run, "--map": args.map}
     refuse_unwritable(args.out, outputs, inputs)

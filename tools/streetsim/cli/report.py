@@ -88,7 +88,7 @@ def add_appendix(tool_parser: argparse.ArgumentParser) -> None:
     tool_parser.add_argument(
         "--csv", metavar="FILE", help="also write a table of all junctions and movements, before and after (.csv)"
     )
-    interval = "begin of the interval that is shown (default: the busiest; of works, the worst)"
+    interval = "begin of the interval that is shown (default: the worst)"
     add_clock(tool_parser, "--interval", interval)
     add_names(tool_parser)
     tool_parser.add_argument(
@@ -216,9 +216,8 @@ def sheets_html(plans: Sequence[Runs], timings: Sequence[Timings], light_names: 
 
 
 def interval_of(all_runs: Sequence[Runs], args: argparse.Namespace) -> tuple[int, int]:
-    """The interval (begin, end), in seconds, that is shown and that all plans have: the one of --interval, else the
-    busiest of the first plan, or where there are road works that in which vehicles lose most, of those in which works
-    last. Fault where there is none."""
+    """The interval (begin, end), in seconds, that is shown and that all plans have: the one of --interval, else that in
+    which vehicles lose most, where there are road works of those in which works last. Fault where there is none."""
     common = set(all_runs[0].intervals()).intersection(*(runs.intervals() for runs in all_runs))
     if not common:
         raise Fault("the runs have no interval in common")
@@ -227,7 +226,7 @@ def interval_of(all_runs: Sequence[Runs], args: argparse.Namespace) -> tuple[int
         of_works = {
             (first, last) for first, last in common if any(begin < last and first < end for begin, end in spans)
         }
-        return worst_interval(all_runs, of_works) if of_works else all_runs[0].busiest(common)
+        return worst_interval(all_runs, of_works or common)
     if args.interval not in (ends := dict(sorted(common))):
         raise Fault(f"--interval {args.interval}: no interval begins there, of {', '.join(map(str, ends))}")
     return args.interval, ends[args.interval]

@@ -83,13 +83,15 @@ def pairs_of_edges(graph: Graph, net: SumoNet, everywhere: bool) -> list[Pair]:
 
 
 def expected_ends(graph: Graph, net: SumoNet, outside: Iterable[int]) -> list[End]:
-    """For each edge what is expected of it as an end: weight by how many lanes it has where it is one of `outside`
-    (edges by number), else by the metres of its lanes, as for the houses along it."""
+    """For each edge what is expected of it as an end, by the class of its street, which its lanes and limits tell. Of
+    one of `outside` (edges by number) the metres a second of its lanes, as main streets lead in and out; of another the
+    seconds that its lanes are long, as houses stand along slow streets."""
     outside_edges, lanes = set(outside), [net.edges[name].lanes for name in graph.edges]
     return [
-        End(float(len(of_edge)), True) if edge in outside_edges else End(sum(lane.metres for lane in of_edge))
+        End(sum(lane.speed for lane in of_edge), True) if edge in outside_edges
+        else End(sum(lane.metres / lane.speed for lane in of_edge))
         for edge, of_edge in enumerate(lanes)
-    ]
+    ]  # fmt: skip
 
 
 def pairs_of_zones(graph: Graph, zones: Mapping[str, Zone], zone_pairs: Iterable[tuple[str, str]]) -> list[Pair]:

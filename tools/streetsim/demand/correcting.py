@@ -1,7 +1,7 @@
 """Runs a demand, corrects the counts that the next fit is to meet by what passed in the run, and so on, until a run
 fits or no run is left. What streetsim-demand --runs does."""
 from collections.abc import Iterator, Sequence
-from dataclasses import dataclass
+from dataclasses import dataclass, replace
 
 from streetsim.base.report import first_few
 from streetsim.demand.demanding import (
@@ -27,10 +27,11 @@ LATE = 0.1  # of a count, that does not pass though the vehicles for it are ther
 
 @dataclass(frozen=True, slots=True)
 class Attempt:
-    """A demand and what its run gave. number: of the run, from 1; counts_passed: vehicles that passed, by count; full:
-    the edges that were full in the run, as `full_edges` gives them."""
+    """A demand and what its run gave. number: of the run, from 1; smallness: as DemandInputs has it; counts_passed:
+    vehicles that passed, by count; full: the edges that were full in the run, as `full_edges` gives them."""
 
     number: int
+    smallness: float
     trips: list[Trip]
     fitted: Fitted
     judged: JudgedCounts
@@ -46,32 +47,44 @@ class Attempt:
 
     def line(self) -> str:
         """What is told of the run when it ends, in one line."""
+        smaller = f", {smallness_told(self.smallness)}" if self.smallness else ""
         return (
-            f"run {self.number}: {len(self.trips):,} vehicles, {self.arrived:,} arrived, {self.ran.rescues:,} rescues, "
+            f"run {self.number}{smaller}: {len(self.trips):,} vehicles, {self.arrived:,} arrived, "
+            f"{self.ran.rescues:,} rescues, "
             f"GEH below 5 for {100 * self.judged.good_share:.1f} % of the counts by hour, "
             f"totals within {100 * self.judged.greatest_difference:.1f} %"
         )
 
-    def rank(self) -> tuple[bool, float, float]:
-        """What attempts are ranked by, the better one has the greater value: (whether it fits, share of counts with GEH
-        below 5, 0 to 1 with three decimals, totals' difference, as a share, with a minus)."""
-        return self.judged.meets_criteria, round(self.judged.good_share, 3), -self.judged.greatest_difference
+    def rank(self) -> tuple[bool, bool, float, float]:
+        """What attempts are ranked by, the better one has the greater value: (whether it does not lock, whether it
+        fits, share of counts with GEH below 5, 0 to 1 with three decimals, totals' difference, as a share, with a
+        minus)."""
+        judged = self.judged
+        return not jams_of(self), judged.meets_criteria, round(judged.good_share, 3), -judged.greatest_difference
 
 
 def try_demands(
     basis: Basis, inputs: DemandInputs, ground: RunGround, runs: int, fitted: Fitted, report_stage: ReportStage
 ) -> Iterator[Attempt]:
     """Runs a demand, of one count at least, at most `runs` times, and gives each attempt as it ends: the first of the
-    fit on paper (fitted), the others of what the run before corrects. Ends after one that fits. Fault where a fit has
-    no vehicle, or a run cannot be made."""
+    fit on paper (fitted), the others of what the run before corrects; where counts alone tell the demand and the run
+    before locked, of a smaller one. Ends after one that fits and does not lock. Fault where a fit has no vehicle, or a
+    run cannot be made."""
     graph = basis.town.graph
     vehicles_counted = made_up = counted_vehicles(basis.counts)
     for number in range(1, runs + 1):
         report_stage(f"run {number} of {runs}")
         attempt = try_demand(basis, inputs, ground, number, fitted)
         yield attempt
-        if attempt.judged.meets_criteria or number == runs:
+        is_to_shrink = bool(jams_of(attempt)) and inputs.of_counts_alone and inputs.smallness < 1
+        if attempt.judged.meets_criteria and not is_to_shrink or number == runs:
             return
+        if is_to_shrink:
+            inputs = replace(inputs, smallness=1.0 if number + 1 == runs else (1 + inputs.smallness) / 2)
+            made_up = vehicles_counted
+            report_stage(f"smaller fit after run {number} of {runs}")
+            fitted = fit_to_counts(basis, inputs, basis.free_costs(), made_up)
+            continue
         costs = costs_of(graph, list(attempt.loaded.free), attempt.ran.observed, ground.width)
         report_stage(f"fit after run {number} of {runs}")
         made_up = corrected_counts(basis, attempt, costs, vehicles_counted, made_up)
@@ -87,7 +100,13 @@ def try_demand(basis: Basis, inputs: DemandInputs, ground: RunGround, number: in
     kinds = [trip.type if trip.type in basis.kinds else "" for trip in trips]
     passed = passed_by_count(basis.by_edges, [trip.path for trip in trips], kinds, ran.exit_clocks)
     full = full_edges(town.graph, movement_delays(town.graph, ran.observed, loaded.free))
-    return Attempt(number, trips, fitted, judge_counts(basis.counts, passed), loaded, ran, passed, full)
+    judged = judge_counts(basis.counts, passed)
+    return Attempt(number, inputs.smallness, trips, fitted, judged, loaded, ran, passed, full)
+
+
+def smallness_told(smallness: float) -> str:
+    """How near a demand is to the smallest one, in words."""
+    return "the smallest demand" if smallness >= 1 else f"{100 * smallness:.0f} % of the way to the smallest demand"
 
 
 def corrected_counts(
@@ -156,8 +175,13 @@ def why_misfit(basis: Basis, attempt: Attempt, misfit: ComparedCount) -> str:
 
 def doubts_of(attempt: Attempt) -> list[str]:
     """Why the run of a demand is not to be trusted, each in some words; empty where it is."""
+    return [*attempt.ran.at_works, *jams_of(attempt)]
+
+
+def jams_of(attempt: Attempt) -> list[str]:
+    """By what a run shows that its demand locks, each in some words; empty where it does not."""
     rescues, (waiting, clock) = attempt.ran.rescues, attempt.ran.most_waiting
-    doubts = [*attempt.ran.at_works]
+    doubts = []
     if rescues > max(1, trust.MOST_RESCUES * len(attempt.trips)):
         doubts.append(f"{rescues:,} rescues of {len(attempt.trips):,} vehicles")
     if waiting > trust.MOST_WAITING * len(attempt.trips):

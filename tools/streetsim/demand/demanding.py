@@ -3,7 +3,7 @@ counts (Basis, Fitted)."""
 from bisect import bisect_right
 from collections import defaultdict
 from collections.abc import Callable, Iterable, Mapping, Sequence
-from dataclasses import dataclass
+from dataclasses import dataclass, replace
 from itertools import pairwise
 from xml.etree.ElementTree import Element
 
@@ -24,8 +24,12 @@ from streetsim.sumo.demand import Demand
 from streetsim.sumo.trips import Trip
 from streetsim.sumo.types import CLASSES, Types
 from streetsim.sumo.way_costs import Costs, flat_costs
+from streetsim.sumo.way_graph import Graph
 from streetsim.sumo.way_seconds import free_seconds
 from streetsim.sumo.way_unloaded import map_without_routes, times_and_capacities_without_routes
+
+FRINGE, ALL = "fringe", "all"  # where trips begin and end: where the network does, or on any edge
+FEW_EDGES = 0.2  # of a network: fewer that are counted say little of where trips begin and end
 
 ReportStage = Callable[[str], object]  # takes what is done just now, in words
 
@@ -43,10 +47,15 @@ class DemandInputs:
     candidates: tuple[str, ...] = ()
     ways: int | None = None  # between two edges at most; none: 3, or 0 with files of candidates
     most: int = 60_000  # candidate ways, about
-    everywhere: bool = False  # trips begin and end on any edge
+    ends: str | None = None  # where trips begin and end: FRINGE, ALL; none: by whether the counts are few
     error: float = fitting.ERROR  # of a count, as a share, by which it is taken to be wrong
     seed: int = 1
-    smallest: bool = False  # as few vehicles as meet the counts
+    smallness: float = 0.0  # 1: as few vehicles as meet the counts; 0: as many as are expected
+
+    @property
+    def of_counts_alone(self) -> bool:
+        """Whether nothing but counts says how many drive."""
+        return bool(self.counts) and not self.matrices and not self.flows
 
 
 @dataclass(frozen=True, slots=True)
@@ -66,6 +75,7 @@ class Basis:
     given_vehicles: Mapping[str, Array]
     free: Sequence[float]
     kept_pairs: tuple[int, int]  # pairs that were kept, of how many
+    has_few: bool = False  # few counts, and nothing else that says where trips begin and end
 
     def free_costs(self) -> Costs:
         """The costs of movements without other traffic, equal in all slices of time: the seconds of free, and more for
@@ -105,6 +115,9 @@ def basis_of(town: RouteTown, inputs: DemandInputs, report_stage: ReportStage) -
     kinds = kinds_of(counts, cells)
     add_types(kinds, town.types)
     report_stage("finding ways")
+    has_few = inputs.of_counts_alone and not zones and are_few(counts, town.graph)
+    if has_few and not inputs.ends:
+        inputs = replace(inputs, ends=ALL)
     if inputs.flows:
         pairs, ways, departs = candidates_by_ratios(town, inputs, free)
         thinned = len(pairs), len(pairs)
@@ -122,7 +135,12 @@ def basis_of(town: RouteTown, inputs: DemandInputs, report_stage: ReportStage) -
     given_vehicles = cell_vehicles(cells, pairs, ways, slices) if cells else of_departures
     begins, ends = {edge for pair in pairs for edge in pair.sources}, {edge for pair in pairs for edge in pair.sinks}
     apart = checking.contradictions(counts, town.graph, begins, ends)
-    return Basis(town, counts, apart, kinds, pairs, ways, slices, by_edges, given_vehicles, free, thinned)
+    return Basis(town, counts, apart, kinds, pairs, ways, slices, by_edges, given_vehicles, free, thinned, has_few)
+
+
+def are_few(counts: Iterable[Count], graph: Graph) -> bool:
+    """Whether less than FEW_EDGES of the edges of a network are counted."""
+    return len({edge for count in counts for edge in count.edges}) < FEW_EDGES * len(graph.edges)
 
 
 def check_inputs(inputs: DemandInputs) -> None:
@@ -193,7 +211,7 @@ def ways_of_pairs(
     elif zones:
         pairs = candidates.pairs_of_zones(graph, zones, [(source, target) for source in zones for target in zones])
     elif count:
-        pairs = candidates.pairs_of_edges(graph, town.net, inputs.everywhere)
+        pairs = candidates.pairs_of_edges(graph, town.net, inputs.ends == ALL)
     else:
         pairs = []
     kept_pairs = pairs
@@ -340,7 +358,7 @@ def expected_vehicles(basis: Basis, inputs: DemandInputs, kind: str, base: Spars
         for count in whole
     ]
     remaining = numpy.maximum(targets[rows] - numpy.array(less), 0.0)
-    return Expecting(basis.ways, basis.pairs, basis.slices, inputs.error, inputs.smallest).vehicles_by_counts(
+    return Expecting(basis.ways, basis.pairs, basis.slices, inputs.error, inputs.smallness).vehicles_by_counts(
         base[rows], remaining
     )
 

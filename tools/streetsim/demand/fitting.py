@@ -106,11 +106,12 @@ class Expecting:
     begins and ends on each edge, or in each zone."""
 
     def __init__(
-        self, ways: Sequence[Way], pairs: Sequence[Pair], slices: Slices, error: float, is_smallest: bool = False
+        self, ways: Sequence[Way], pairs: Sequence[Pair], slices: Slices, error: float, smallness: float = 0.0
     ) -> None:
-        """error: share of a count by which it is taken to be wrong; is_smallest: as few as meet the counts."""
+        """error: share of a count by which it is taken to be wrong; smallness: how much of what is expected, 0 to 1, is
+        that of the fewest vehicles that meet the counts."""
         numpy, _ = numpy_and_scipy()
-        self.is_smallest = is_smallest
+        self.smallness = smallness
         self.slices, self.error, self.ways = slices, error, ways
         way_pairs = [pairs[way.pair] for way in ways]
         self.begins = TripEnds([pair.source for pair in way_pairs], [pair.begins for pair in way_pairs])
@@ -121,8 +122,8 @@ class Expecting:
     def vehicles_by_counts(self, passing: Sparse, targets: Array) -> Array:
         """The vehicles of each way and slice, an array in one row at index way * slices + slice, by counts alone: at
         first by the habit of drivers (none is tried where a way's share is given), and by what ends outside have more,
-        that fit the counts best; then the smallest numbers, if these are wanted, or else half by how many begin and end
-        where it does, and half by what the counts have shown of each way. passing, targets: as `Problem` has them."""
+        that fit the counts best; then half by how many begin and end where it does, and half by what the counts have
+        shown of each way; as much as is wanted of the smallest numbers. passing, targets: as `Problem` has them."""
         numpy, _ = numpy_and_scipy()
         deviation, share = deviations(targets, self.error), numpy.array([way.share for way in self.ways])
         if all(way.ends_share is not None for way in self.ways):
@@ -131,15 +132,16 @@ class Expecting:
         starts = [self.vehicles_by_ends(share * self.outside**exponent, share) for exponent in OUTSIDE]
         start = min(starts, key=lambda vehicles: self.misfit(passing, targets, vehicles))
         base, rates = self.ways_and_slices(passing, targets, start)
-        if self.is_smallest:
-            base = smallest_vehicles(pooled_columns(passing, rates), targets, deviation)
-            return numpy.outer(numpy.maximum(base, LEAST_EXPECTED), rates).ravel()
-        for _ in range(ENDS_ROUNDS):
+        smallest: Array = 0.0
+        if self.smallness:
+            smallest = self.smallness * smallest_vehicles(pooled_columns(passing, rates), targets, deviation)
+        for _ in range(ENDS_ROUNDS if self.smallness < 1 else 0):
             fitted = least_squares(Problem(pooled_columns(passing, rates), base, targets, deviation))[0]
             mixed = HALF * self.vehicles_by_ends(fitted, share) + (1 - HALF) * fitted
             base, rates = self.ways_and_slices(passing, targets, mixed)
         base = least_squares(Problem(pooled_columns(passing, rates), base, targets, deviation))[0]
-        return numpy.outer(numpy.maximum(base, LEAST_EXPECTED), rates).ravel()
+        mixed = smallest + (1 - self.smallness) * base
+        return numpy.outer(numpy.maximum(mixed, LEAST_EXPECTED), rates).ravel()
 
     def misfit(self, passing: Sparse, targets: Array, base: Array) -> float:
         """How far counts and what is expected stay apart in a fit, by the sum of squares, so that the best of several

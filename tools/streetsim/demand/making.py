@@ -22,6 +22,7 @@ from streetsim.sumo.trips import Trip, Trips, write_routes
 
 SLICE = 300  # seconds of a slice of time, over which the seconds of movements are means
 MOST_TOLD = 5  # warnings of one sort
+FEW_RUNS = 3  # of a demand by few counts, at most, where no word says how many
 
 
 @dataclass(frozen=True, slots=True)
@@ -110,6 +111,14 @@ def print_input_notes(basis: Basis, fitted: Fitted) -> None:
         print(f"{kept_count:,} of {total:,} pairs are drawn, for {len(basis.ways):,} ways (--most)", file=sys.stderr)
 
 
+def print_few(ends_are_given: bool, is_run: bool) -> None:
+    """Prints on standard error what is done with few counts where no word says it; ends_are_given: by --ends; is_run:
+    whether runs judge the demand."""
+    anywhere = "" if ends_are_given else ", trips begin and end on any edge, by the class of its street (--ends)"
+    runs = f"at most {FEW_RUNS} runs judge it (--runs)" if is_run else "no simulator is there to tell whether it locks"
+    print(f"few edges are counted: most vehicles are what is expected{anywhere}; {runs}", file=sys.stderr)
+
+
 def warn(texts: Sequence[str], more: str) -> None:
     """Prints warnings of one sort on standard error, five at most, and how many more there are by `more`."""
     further = [more.format(len(texts) - MOST_TOLD)] if len(texts) > MOST_TOLD else []
@@ -140,6 +149,7 @@ def setting_of(inputs: DemandInputs, demand: MadeDemand, runs: int) -> Json:
     return {
         **asdict(inputs),
         "runs": runs,
+        "smallness": demand.best.smallness if demand.best else inputs.smallness,
         "close": [*demand.basis.town.works],
         "begin": demand.basis.slices.bounds[0],
         "vehicles": len(demand.trips),
@@ -157,6 +167,9 @@ def print_result(demand: MadeDemand) -> int:
     )
     if not demand.judged:
         return 0
+    if demand.best and (locked := [one for one in demand.tried if one.smallness < demand.best.smallness]):
+        vehicles, smaller = len(locked[-1].trips), correcting.smallness_told(demand.best.smallness)
+        print(f"a larger demand, of {vehicles:,} vehicles, locks here: this is {smaller} that meets the counts")
     if not demand.best:
         print("on paper, by seconds without other traffic (--runs N judges in the simulation):")
     print(*demand.judged.lines(), sep="\n")

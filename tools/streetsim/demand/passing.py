@@ -14,7 +14,7 @@ from streetsim.sumo.router import Path
 from streetsim.sumo.way_costs import Costs, Table
 from streetsim.sumo.way_graph import END, Graph
 
-WIDEST_LEAD = 900  # seconds of a width in which the slice is told that leads in
+WIDEST_LEAD = 900  # seconds of the slice that leads in, at most
 MOST_UNKNOWNS = 5_000_000
 
 
@@ -41,7 +41,7 @@ def slices_of(bounds: Iterable[int], lead: float, begin: int) -> Slices:
     at most, but not before the clock `begin`; none where this leaves it no second."""
     period_bounds = sorted(set(bounds))
     width = min(WIDEST_LEAD, *(later - sooner for sooner, later in pairwise(period_bounds)))
-    early = max(begin, period_bounds[0] - ceil(lead / width) * width)
+    early = max(begin, period_bounds[0] - min(WIDEST_LEAD, ceil(lead / width) * width))
     return Slices((early, *period_bounds), True) if early < period_bounds[0] else Slices(tuple(period_bounds), False)
 
 

@@ -52,8 +52,11 @@ class Doubt:
             way = names.movement(self.edge, self.target) if self.target else names.approach(self.edge)
             ids = f" ({self.edge}{f' to {self.target}' if self.target else ''})" if not names.street(self.edge) else ""
             place = f"{way}{ids}, at {names.junction_told(self.junction)}"
-        when = f", {time_of_day(self.begin)} to {time_of_day(self.end)}" if self.end else ""
-        return place + when
+        return place + self.when_told()
+
+    def when_told(self) -> str:
+        """From when to when it is, behind a comma; empty where it is to the end of the run."""
+        return f", {time_of_day(self.begin)} to {time_of_day(self.end)}" if self.end else ""
 
     def in_words(self, names: Names) -> str:
         """Its place, why, and what it touches, as plain text."""

@@ -5,11 +5,24 @@ from collections.abc import Mapping
 from dataclasses import dataclass
 from typing import Any
 
+from streetsim.base.arrays import Array
 from streetsim.model.named import one_of
 
 LEFT_TURN, RIGHT_TURN, STRAIGHT, TURNAROUND = "left", "right", "straight on", "back"
 MERGING = "where lanes become one"
 OVERFULL = 1.1  # share of what can pass, from which on a queue grows all the time
+
+
+def passing_in_green(effective: Array, headway: Array) -> Array:
+    """How many vehicles pass in the effective seconds of green, of so many seconds each; numbers, or arrays of lanes.
+    The import's fullness and v/c both have it, so that they differ by what a run measures alone."""
+    return effective / headway
+
+
+def filled(wished: float, capacity: float) -> float:
+    """How full a lane or a movement is, as a share: who wishes to pass over who can in the same time, of an import and
+    of a run (v/c); 0 where capacity is 0, which says that it is not known."""
+    return wished / capacity if capacity else 0.0
 
 
 @dataclass(slots=True, frozen=True)
@@ -60,13 +73,6 @@ class Fullness:
         """Those of lanes on which nobody waits for gaps at a light: how full others are a run shows."""
         lanes = tuple(one for one in self.lanes if not one.waits)
         return Fullness(lanes, min(self.vehicles, sum(one.vehicles for one in lanes)), self.of)
-
-    def junctions(self) -> dict[str, float]:
-        """By junction the greatest demand of its lanes, as a share of what can pass."""
-        found: dict[str, float] = {}
-        for one in self.lanes:
-            found[one.junction] = max(one.demand, found.get(one.junction, 0.0))
-        return found
 
 
 def fullness_of(value: Mapping[str, Any]) -> Fullness:

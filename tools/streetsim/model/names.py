@@ -59,16 +59,18 @@ class Names:
         return f"{street}, {self.coming_from(edge)}" if street else self.coming_from(edge)
 
     def movement(self, edge: str, to: str) -> str:
-        """What the movement from an edge to the next is called: 'Hill Street into Market Street, from the north', or
-        'along Hill Street, from the north to the south' or 'and back'; by directions where a street has no name."""
+        """What the movement from an edge to the next is called: 'Hill Street into Market Street, from the north to the
+        east', or 'along Hill Street, from the north to the south' or 'and back'; by directions where a street has no
+        name."""
         street, following = self.street(edge), self.street(to)
         coming, going = self.coming_from(edge), self.going_to(to)
         if coming and coming.removeprefix("from ") == going.removeprefix("to "):
             going = "and back"
         if street and street == following:
             return f"along {street}, {coming} {going}"
-        target = f"into {following}" if following else going
-        return f"{street} {target}, {coming}" if street else f"{coming} {target}"
+        if street:
+            return f"{street} into {following}, {coming} {going}" if following else f"{street} {going}, {coming}"
+        return f"{coming} into {following}" if following else f"{coming} {going}"
 
     def coming_from(self, edge: str) -> str:
         """Where one comes from who drives along the end of an edge: 'from the north'; empty for an unknown edge."""

@@ -5,6 +5,7 @@ from collections.abc import Collection, Iterable, Iterator, Mapping, Sequence
 from dataclasses import dataclass, replace
 
 from streetsim.model.doubts import ALL, APPROACH, LANE, MOVEMENT, SPREAD, Doubt, DoubtsByPlace, why_of
+from streetsim.model.fullness import filled
 from streetsim.model.mapping import Map, Place
 from streetsim.model.names import Names, open_named
 from streetsim.model.service import fills, level, percentile
@@ -44,7 +45,8 @@ class JunctionTables:
     ) -> None:  # fmt: skip
         """approaches: by edge, as `approaches_of` gives them, of a map; doubts: with places; cut: edges of approaches
         to which further edges lead that no table has; giving: lanes from which some wait for gaps at lights."""
-        self.full, self.mapping, self.giving = mapping.full.junctions(), mapping, {*giving}
+        self.mapping, self.giving = mapping, {*giving}
+        self.full = {one.lane for one in mapping.full.lanes}  # where lanes become one, the edge
         self.doubts, self.cut = DoubtsByPlace(doubts), {*cut}
         self.by_junction: defaultdict[str, list[Approach]] = defaultdict(list)
         for approach in approaches.values():
@@ -65,9 +67,9 @@ class JunctionTables:
             added = [self.add_approach(interval, queues, approach) for approach in approaches]
             measures = [values for values in added if values]
             if measures:
-                parts, longest, ratios, doubts = zip(*measures, strict=True)
+                parts, longest, ratios, filling, doubts = zip(*measures, strict=True)
                 lost, control = weighted_mean_losses(parts), approaches[0].control
-                full = f"{self.full[junction]:.2f}" if junction in self.full else ""
+                full = f"{max(filling):.2f}" if any(filling) else ""
                 doubt = spread_doubt(zip(parts, doubts, strict=True))
                 junction_columns = f"{max(longest):.1f}", f"{max(ratios):.2f}", level(lost.delay, control), full, doubt
                 head = interval.begin, interval.end, junction, control
@@ -75,9 +77,10 @@ class JunctionTables:
 
     def add_approach(
         self, interval: Interval, queues: Queues, approach: Approach
-    ) -> tuple[Losses, float, float, str] | None:
+    ) -> tuple[Losses, float, float, float, str] | None:
         """Adds the rows of an approach and of its movements; gives (what its vehicles lost, metres of its longest
-        queue, the greatest v/c of its movements, its doubt); None where nobody used it."""
+        queue, the greatest v/c of its movements, the same of those on lanes that the demand nearly fills or 0, its
+        doubt); None where nobody used it."""
         used = [pair for pair in self.movements_of[approach.edge] if (approach.edge, pair[0]) in interval.lost]
         if not used:
             return None
@@ -98,7 +101,13 @@ class JunctionTables:
         doubt = whole or spread_doubt(zip((row.lost for row in rows), doubts, strict=True))
         ratio_columns = f"{ratio:.2f}", level(lost.delay, approach.control), doubt
         self.approaches.append((*head, *loss_columns(lost, interval), *queued, *ratio_columns))
-        return lost, max((greatest for _, greatest, _ in lane_queues), default=0.0), ratio, doubt
+        greatest = max((greatest for _, greatest, _ in lane_queues), default=0.0)
+        filling = max((row.ratio for row in rows if self.is_filled(approach, row)), default=0.0)
+        return lost, greatest, ratio, filling, doubt
+
+    def is_filled(self, approach: Approach, row: MovementRow) -> bool:
+        """Whether the demand nearly fills a lane of a movement, or its edge, where lanes become one."""
+        return not self.full.isdisjoint([approach.edge, *(self.mapping.lane_name(*lane) for lane in row.lanes)])
 
     def seen_doubts(self, interval: Interval, approach: Approach, rows: Sequence[MovementRow]) -> list[Doubt]:
         """The given doubts of an approach in an interval; of lanes that are full by the demand those whose v/c in the
@@ -170,7 +179,7 @@ class JunctionTables:
         capacity = sum(vehicles / hours / uses[lane_key] for lane_key, vehicles in lanes.items() if uses[lane_key])
         wished = sum(vehicles * max(1.0, interval.wishes.get(lane_key, 1.0)) for lane_key, vehicles in lanes.items())
         wished += max(0, interval.entering_more.get((approach.edge, target), 0))
-        ratio = wished / hours / capacity if capacity else 0.0
+        ratio = filled(wished / hours, capacity)
         flow = sum(vehicles * interval.flows[lane_key] for lane_key, vehicles in lanes.items()) / count
         used = [lane_key for lane_key, vehicles in lanes.items() if vehicles >= MOVEMENT_SHARE * count]
         room = min((approach.rooms.get(lane_key, approach.whole_metres) for lane_key in used), default=0.0)
@@ -197,7 +206,12 @@ class JunctionTables:
                 self.add(interval)
                 for table, rows in tables:
                     table.write_rows(rows)
-                    rows.clear()
+                self.clear()
+
+    def clear(self) -> None:
+        """Lets the rows go that were added."""
+        for rows in (self.movements, self.approaches, self.junctions):
+            rows.clear()
 
 
 def as_seen(doubt: Doubt, ratio: float) -> Doubt:

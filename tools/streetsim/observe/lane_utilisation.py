@@ -7,6 +7,7 @@ from typing import NamedTuple
 
 from streetsim.base.arrays import Array, numpy as np
 from streetsim.kernel.seconds import SLOTS, by_number
+from streetsim.model.fullness import passing_in_green
 from streetsim.model.mapping import Place
 from streetsim.observe.crossings import Crossed
 from streetsim.observe.junction_capacity import (
@@ -131,7 +132,8 @@ class UtilisationCalculator:
         parts = greens.has_green * seconds, greens.has_green * shown_interval.waiting, greens.has_green & ~before
         green, waiting, begins = (np.add.reduceat(part, firsts, dtype=np.int64) for part in parts)
         count, alone = (sums.sums_of(number)[self.lanes] for sums in (self.crossed.passes, self.crossed.alone))
-        by_green = np.minimum(1.0, count / (self.flow * np.maximum(1.0, green - self.lost * begins) / 3600))
+        capacity = passing_in_green(np.maximum(1.0, green - self.lost * begins), 3600 / self.flow)
+        by_green = np.minimum(1.0, count / capacity)
         share = np.where(greens.same_green, by_green, self.by_busy_seconds(alone, waiting, green))
         share = np.where(waiting >= ALWAYS * green, 1.0, share)
         wish = 1 + grown(shown_interval, greens.has_green, firsts, lasts) / np.maximum(1, count)

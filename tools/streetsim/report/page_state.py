@@ -12,21 +12,23 @@ from streetsim.report.plan_differences import mean_delays
 from streetsim.report.run_tables import Runs
 
 
-def state_verdict(runs: Runs, interval: Interval) -> str:
-    """The answer for one plan, how long trips take, and how many junctions are worse than D in the interval that is
-    shown, as plain text."""
+def state_verdict(runs: Runs, interval: Interval) -> list[str]:
+    """The answer for one plan, and sentences on how long trips take, and how many junctions are worse than D in the
+    interval that is shown, as plain texts."""
     trip = f"A trip takes {mean_told(runs.mean_trips().values())} s on average."
-    works = (f"{page_works.worst_told(runs, one)}." for one in page_works.seen_in(runs))
-    return " ".join([state_answer(runs, worst_interval([runs])), *works, trip, levels_of(runs, interval)]).strip()
+    works = [f"{page_works.worst_told(runs, one)}." for one in page_works.seen_in(runs)]
+    levels = levels_of(runs, interval)
+    return [*state_answer(runs, worst_interval([runs])), *works, trip, *([levels] if levels else [])]
 
 
-def state_answer(runs: Runs, worst: Interval) -> str:
-    """The first sentence: whether it flows, with the delay of all, of the worst interval, and of the slowest movement
-    there; undecided where the plan is not to be trusted, or doubted movements have much of the delay there."""
+def state_answer(runs: Runs, worst: Interval) -> list[str]:
+    """The answer, whether it flows, undecided where the plan is not to be trusted, or doubted movements have much of
+    the delay in the worst interval; and a sentence on the delay of all, of that interval, and of the slowest movement
+    there."""
     movement, every = slowest([runs], worst), runs.intervals()
     flows = how_it_flows(runs, worst)
     all_rows = [row for (table, *_), rows in runs.rows.items() if table == "junctions" for row in rows.values()]
-    text = f"a vehicle loses {mean_told(mean_delays(all_rows).values())} s at a junction on average"
+    text = f"A vehicle loses {mean_told(mean_delays(all_rows).values())} s at a junction on average"
     if len(every) > 1:
         those = mean_told(mean_delays(runs.rows["junctions", *worst].values()).values())
         text += f", {those} s in the worst time, {time_of_day(worst[0])} to {time_of_day(worst[1])}"
@@ -35,8 +37,8 @@ def state_answer(runs: Runs, worst: Interval) -> str:
         called = f"{runs.names.movement(*movement.key[1:])} at {runs.names.junction_told(movement.key[0])}"
         text += f", and with the worst movement, {called}, {movement.row.delay:.0f} s ({movement.row.letter()})"
     if doubts_of(runs) or doubted_share(runs, worst) >= SPREAD:
-        return f"Undecided, as what decides is doubted; here {flows}: {text}."
-    return f"{flows[0].upper()}{flows[1:]}: {text}."
+        return [f"Undecided, as what decides is doubted; here {flows}.", f"{text}."]
+    return [f"{flows[0].upper()}{flows[1:]}.", f"{text}."]
 
 
 def how_it_flows(runs: Runs, interval: Interval) -> str:
@@ -57,7 +59,7 @@ def levels_of(runs: Runs, interval: Interval) -> str:
     doubted_count = len(rows) - len(sure)
     of_rows = counted_noun(len(rows), "junction")
     doubt = f" Levels of service of {count_in_words(doubted_count)} of {of_rows} are doubted."
-    doubt = doubt if doubted_count else ""
+    doubt = (doubt if len(rows) > 1 else " Its level of service is doubted.") if doubted_count else ""
     if not sure:
         return doubt.strip()
     bad = sum(junction.is_bad for junction in sure)

@@ -7,7 +7,7 @@ from statistics import fmean
 
 from streetsim.base.report import HEAVY
 from streetsim.base.words import time_of_day
-from streetsim.model.doubts import Doubt, Place, place_of, places_told, worst_first
+from streetsim.model.doubts import MOST_TOLD, Doubt, Place, place_of, worst_first
 from streetsim.model.loaded_lanes import forecast_doubts, loaded_lanes
 from streetsim.model.replications import told_of_days
 from streetsim.model.service import AT_PRIORITY, AT_SIGNALS, COLOURS
@@ -66,18 +66,21 @@ def question_html(question: str, plans: Sequence[Runs], interval: Interval) -> s
 
 
 def verdict(plans: Sequence[Runs], interval: Interval) -> str:
-    """The verdict in a few sentences, as HTML, with a mark where runs are not to be trusted."""
-    said = change_verdict(plans, interval) if len(plans) == 2 else state_verdict(plans[0], interval)
+    """The answer, a list of its figures, and the worst doubts, as HTML, with a mark where runs are not to be
+    trusted."""
+    said, *figures = change_verdict(plans, interval) if len(plans) == 2 else state_verdict(plans[0], interval)
     untrusted = [runs.name for runs in plans if doubts_of(runs)]
     told = f"Not to be trusted: {' and '.join(untrusted)} (why: below)."
     mark = f'<p class="doubt">{escape(told)}</p>' if untrusted else ""
-    return f'{mark}<p class="verdict">{escape(said)}</p>{doubted_line(plans)}'
+    return f'{mark}<p class="verdict">{escape(said)}</p>{bullets(figures)}{doubted_line(plans)}'
 
 
 def doubted_line(plans: Sequence[Runs]) -> str:
     """The worst doubted places of all plans, as HTML; empty where there are none."""
-    told = places_told([place for runs in plans for place in runs.places], plans[-1].first_folder.mapping)
-    return f'<p class="doubt">{escape(told[0].upper() + told[1:])}.</p>' if told else ""
+    names, places = plans[-1].names, worst_first(place for runs in plans for place in runs.places)
+    told = "; ".join(f"{one.place_told(names)}: {why(one)}" for one in places[:MOST_TOLD])
+    more = f"; and {counted_noun(len(places) - MOST_TOLD, 'other place')}" if len(places) > MOST_TOLD else ""
+    return f'<p class="doubt">Doubted most of all: {escape(told + more)}.</p>' if places else ""
 
 
 def places_table(plans: Sequence[Runs]) -> str:

@@ -48,15 +48,15 @@ def kind_of_change(runs_before: Runs, runs_after: Runs) -> ForecastError | None:
     return WAVE if any(one.offset != other.offset for one, other in known) else None
 
 
-def change_verdict(plans: Sequence[Runs], interval: Interval) -> str:
-    """What the second of two plans changes, as plain text: the answer, and then the figures for all, in the worst
+def change_verdict(plans: Sequence[Runs], interval: Interval) -> list[str]:
+    """What the second of two plans changes, as plain texts: the answer, and then the figures for all, in the worst
     interval and of the worst movement, of works those of the works."""
     trip = difference_of(*(runs.mean_trips() for runs in plans), drawn=are_drawn(plans))
     worst = worst_interval(plans)
     delay = delay_change(plans, worst)
     texts = [answer(plans, trip, delay, worst)]
     if kind_of_change(*plans) is LANE:
-        texts = [f"{texts[0].removesuffix('.')}: {'; '.join(works_told(plans, trip))}."]
+        texts += [f"{text[0].upper()}{text[1:]}." for text in works_told(plans, trip)]
     if trip:
         means = f"{trip.mean_after:.1f} s in place of {trip.mean_before:.1f} s"
         texts.append(f"With '{plans[1].name}' a trip takes {means} on average: {change_in_words(trip)}.")
@@ -65,7 +65,7 @@ def change_verdict(plans: Sequence[Runs], interval: Interval) -> str:
         texts.append(f"A vehicle's mean delay at a junction is {means}: {change_in_words(delay)}.")
     else:
         texts.append("No junction has vehicles with both plans.")
-    return " ".join([*texts, *worst_movement(plans, worst), *counted_changes(plans, interval)])
+    return [*texts, *worst_movement(plans, worst), *counted_changes(plans, interval)]
 
 
 def answer(
@@ -166,6 +166,7 @@ def works_told(plans: Sequence[Runs], trip: PlanDifference | None) -> Iterator[s
     if trip:
         hours = trip.change * plans[1].vehicles / 3600
         half = "" if trip.half is None else f" ± {trip.half * plans[1].vehicles / 3600:,.0f}"
-        yield f"all trips together take {abs(hours):,.0f}{half} vehicle-hours {'less' if hours < 0 else 'more'}"
+        sure = "" if trip.half is None or trip.stands_out() else ", which is not shown to differ from none"
+        yield f"all trips together take {abs(hours):,.0f}{half} vehicle-hours {'less' if hours < 0 else 'more'}{sure}"
     for works in page_works.seen_in(plans[1]):
         yield page_works.worst_told(plans[1], works)

@@ -140,13 +140,13 @@ def worst_told(runs: Runs, works: SeenWorks) -> str:
         return float(mean_of(own, "mean_delay_s") or 0)
 
     edge, street = works.place_key[0], runs.names.street(works.place_key[0])
-    place = f"on {street}, {runs.names.coming_from(edge)}," if street else f"on {edge}"
+    place = f"on {street}, {runs.names.coming_from(edge)};" if street else f"on {edge};"
     passed = sum(float(mean_of(own, "vehicles") or 0) for own in works.rows.values())
     (begin, end), longest = max(works.rows.items(), key=lambda item: float(most_of(item[1], "queue_max_m") or 0))
     (first, last), worst = max(works.rows.items(), key=lambda item: delay(item[1]))
     metres = most_of(longest, "queue_max_m") or "0"
     return (
-        f"{passed:,.0f} vehicles pass the works {place}; the longest queue is {metres} m, from "
+        f"{passed:,.0f} vehicles pass the works {place} the longest queue is {metres} m, from "
         f"{time_of_day(begin)} to {time_of_day(end)}; in the worst time, {time_of_day(first)} to {time_of_day(last)}, "
         f"one who passes waits {delay(worst):.0f} s"
     )

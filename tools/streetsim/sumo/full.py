@@ -6,7 +6,9 @@ from dataclasses import replace
 from itertools import chain, pairwise
 from typing import Protocol
 
-from streetsim.model.fullness import LEFT_TURN, MERGING, RIGHT_TURN, STRAIGHT, TURNAROUND, FullLane, Fullness
+from streetsim.model.fullness import (
+    LEFT_TURN, MERGING, RIGHT_TURN, STRAIGHT, TURNAROUND, FullLane, Fullness, filled,
+)  # fmt: skip
 from streetsim.sumo.crossing import Crossing, CrossingMovement, EdgePair, Flows, hourly_flows
 from streetsim.sumo.demand import DemandVehicle
 from streetsim.sumo.lane_capacity import capacity, crossings_of
@@ -100,7 +102,7 @@ def full_at_light(
         lanes[movement.lane].append(movement)
     for (edge, index), sharing in lanes.items():
         wish = sum(movement.flow for movement in sharing)
-        demand = wish / capacity(sharing, wish) if wish >= LEAST_FLOW else 0.0
+        demand = filled(wish, capacity(sharing, wish)) if wish >= LEAST_FLOW else 0.0
         waiting = [movement for movement in sharing if movement.waits and movement.flow]
         if demand >= (FULL if waiting else FULL_IN_TURN):
             source, target = max(waiting or sharing, key=lambda movement: movement.flow).pair
@@ -112,7 +114,7 @@ def full_merges(merges: Iterable[Merge], flows: Flows) -> Iterator[LaneAndPairs]
     """Where lanes become one and nearly as many vehicles wish to pass as can."""
     for one in merges:
         pairs = {pair: flow for pair, flow in flows.items() if pair[0] in one.edges}
-        demand = sum(pairs.values()) / one.capacity
+        demand = filled(sum(pairs.values()), one.capacity)
         if demand >= one.nearly_full:
             source, target = max(pairs, key=lambda pair: pairs[pair])
             yield FullLane(one.junction, source, MERGING, source, target, round(demand, 2)), pairs

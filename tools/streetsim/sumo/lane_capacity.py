@@ -8,6 +8,7 @@ from functools import lru_cache, reduce
 from itertools import groupby
 from operator import or_
 
+from streetsim.model.fullness import passing_in_green
 from streetsim.sumo.crossing import Crossing, CrossingMovement, EdgePair
 from streetsim.sumo.gaps import gap_capacity, until_first
 from streetsim.sumo.net import NetConnection, SumoNet, connections_of
@@ -56,10 +57,10 @@ def passing_alone(movement: CrossingMovement) -> float:
     """Vehicles that pass in a cycle from a lane on which all go by a movement. In a permissive green those find gaps,
     and one goes at its end, whatever comes; while the queues of those leave that go first nobody does."""
     if not movement.waits:
-        return movement.green.bit_count() / movement.headway
+        return passing_in_green(movement.green.bit_count(), movement.headway)
     queues = reduce(or_, map(leaving_bits, movement.foes))
     permissive = movement.green & ~movement.sure & ~queues
-    passing = movement.sure.bit_count() / movement.headway + SNEAKERS * len(movement.runs)
+    passing = passing_in_green(movement.sure.bit_count(), movement.headway) + SNEAKERS * len(movement.runs)
     for seconds, hourly in seconds_by_flow(movement, permissive):
         passing += seconds * min(1 / movement.headway, gap_capacity(min(hourly, MOST_AGAINST)) / 3600)
     return passing
@@ -115,7 +116,7 @@ def weights_of_waiting(movements: Iterable[CrossingMovement]) -> dict[EdgePair, 
     of_pair: dict[EdgePair, float] = {}
     for movement in movements:
         if movement.waits:
-            whole = movement.green.bit_count() / movement.headway
+            whole = passing_in_green(movement.green.bit_count(), movement.headway)
             weight = min(MOST_WEIGHT, whole / max(passing_alone(movement), LEAST_WAITING))
             of_pair[movement.pair] = max(of_pair.get(movement.pair, 1.0), weight)
     return of_pair
