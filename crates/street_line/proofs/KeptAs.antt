@@ -51,9 +51,9 @@ module _ {S M : Type 0} (serves : S → Command → Served → S → Type 0) (an
 
   reaches-as : (before : S) (ls : List (List ℕ)) (after : S) → Reaches serves before ls after → (old : M) → Stands before old → (new : M) × Reaches answers old ls new × Stands after new
   reaches-as before ls after h old stands =
-      let served = kept-as before h.0 h.2 h.3 h.4 h.6 old stands in
-      let end = ends-as h.4 h.1 after h.7 served.0 served.2 in
-      (end.0, (h.0, h.1, h.2, h.3, served.0, h.5, served.1, end.1), end.2)
+      let served = kept-as before h.done h.out h.kept h.mid h.served old stands in
+      let end = ends-as h.mid h.rest after h.ends served.0 served.2 in
+      (end.0, record { done = h.done; rest = h.rest; out = h.out; kept = h.kept; mid = served.0; first_lines = h.first_lines; served = served.1; ends = end.1 }, end.2)
 
   stops-as : (before : S) (log stayed out : Option (List ℕ)) (ls begun : List (List ℕ)) (fault : KeptFault) (after : S) (held synced told : Option (List ℕ))
       → PassStops serves before log stayed out ls begun fault after held synced told → (old : M) → Stands before old

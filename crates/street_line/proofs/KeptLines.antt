@@ -193,13 +193,13 @@ module _ {S : Type 0} (serves : S → Command → Served → S → Type 0) where
   first_up_to start unread log before KeptLog now left held synced after h =
       let stops = h.stops in
       first_passed start unread log before KeptLog now left held synced after h stops.3 (take stops.4.0 stops.1, stops.4.3) (take stops.4.1 stops.1, stops.4.4)
-  first_up_to start unread log before (Run Read) left held synced after h =
-      first_passed start unread log before (Run Read) left held synced after h h.stops.0 (rw h.stops.1 (extends_none h.owed)) (rw h.stops.2 (extends_none h.owed))
-  first_up_to start unread log before (Run Endless) left held synced after h =
-      first_passed start unread log before (Run Endless) left held synced after h h.stops.0 (rw h.stops.1 (extends_none h.owed)) (rw h.stops.2 (extends_none h.owed))
-  first_up_to start unread log before (Run kinds.Starved) left held synced after h =
-      first_passed start unread log before (Run kinds.Starved) left held synced after h h.stops.0 (rw h.stops.1 (extends_none h.owed)) (rw h.stops.2 (extends_none h.owed))
-  first_up_to start unread log before (Run kinds.Write) left held synced after h =
+  first_up_to start unread log before (Run Read) now left held synced after h =
+      first_passed start unread log before (Run Read) now left held synced after h h.stops.0 (rw h.stops.1 (extends_none h.owed)) (rw h.stops.2 (extends_none h.owed))
+  first_up_to start unread log before (Run Endless) now left held synced after h =
+      first_passed start unread log before (Run Endless) now left held synced after h h.stops.0 (rw h.stops.1 (extends_none h.owed)) (rw h.stops.2 (extends_none h.owed))
+  first_up_to start unread log before (Run kinds.Starved) now left held synced after h =
+      first_passed start unread log before (Run kinds.Starved) now left held synced after h h.stops.0 (rw h.stops.1 (extends_none h.owed)) (rw h.stops.2 (extends_none h.owed))
+  first_up_to start unread log before (Run kinds.Write) now left held synced after h =
       let passed = h.passed in
       let stops = h.stops in
       let lines = last_lines left h.seen h.got h.last h.begun h.is_last in
@@ -262,21 +262,21 @@ module _ {S : Type 0} (serves : S → Command → Served → S → Type 0) where
       → (name new ≡ name old) × Reaches serves ((part old).0).0 (lines_of text) ((part new).0).0
   halts_kept part name old text new (causes.Run why) tally h =
       let went = went_kept part name old h.0 h.2 new h.4 in
-      (went.0, (h.0, h.1, output h.2, went.1.0, ((part new).0).0, h.3, went.1.1, inl refl))
+      (went.0, record { done = h.0; rest = h.1; out = output h.2; kept = went.1.0; mid = ((part new).0).0; first_lines = h.3; served = went.1.1; ends = inl refl })
   halts_kept part name old text new (causes.Line stop) tally h =
       let went = went_kept part name old h.0 h.3 h.4 h.6 in
       let last : List (List ℕ) = if_any (cut text).1 in
       let lines : lines_of text ≡ h.0 ++ h.1 ∷ (h.2 ++ last) = ap (λ (ls : List (List ℕ)). ls ++ last) h.5 ∙ append_assoc h.0 (h.1 ∷ h.2) last in
-      (h.7.0 ∙ went.0, (h.0, h.1 ∷ (h.2 ++ last), output h.3, went.1.0, ((part h.4).0).0, lines, went.1.1, inr (h.1, h.2 ++ last, refl, h.7.1)))
+      (h.7.0 ∙ went.0, record { done = h.0; rest = h.1 ∷ (h.2 ++ last); out = output h.3; kept = went.1.0; mid = ((part h.4).0).0; first_lines = lines; served = went.1.1; ends = inr (h.1, h.2 ++ last, refl, h.7.1) })
 
   pub halts_last : {A : Type 0} (part : A → (S × List ℕ) × ℕ) (name : A → ℕ) (old : A) (line : List ℕ) (new : A) (cause : StopCause NoMemory) (tally : Tally)
       → HaltsAtEnd (record { longest = longest_line; takes = TakesPart part name KeepsAt HaltsLine; stops = StopsPart part name KeepsAt HaltsLine }) old line new cause tally
       → (name new ≡ name old) × Reaches serves ((part old).0).0 (if_any line) ((part new).0).0
   halts_last part name old line new (causes.Run why) tally h =
       let went = went_kept part name old h.0 h.2 new h.4 in
-      (went.0, (h.0, h.1, output h.2, went.1.0, ((part new).0).0, h.3, went.1.1, inl refl))
+      (went.0, record { done = h.0; rest = h.1; out = output h.2; kept = went.1.0; mid = ((part new).0).0; first_lines = h.3; served = went.1.1; ends = inl refl })
   halts_last part name old line new (causes.Line stop) tally h =
-      (h.1.0, ([], line ∷ [], [], [], ((part old).0).0, h.0, (refl, refl, refl), inr (line, [], refl, h.1.1)))
+      (h.1.0, record { done = []; rest = line ∷ []; out = []; kept = []; mid = ((part old).0).0; first_lines = h.0; served = (refl, refl, refl); ends = inr (line, [], refl, h.1.1) })
 
   -- ---- what passed
 

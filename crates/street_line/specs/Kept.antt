@@ -103,9 +103,15 @@ module _ {S : Type 0} (serves : S → Command → Served → S → Type 0) where
 
   -- that of these lines the first, perhaps all or none, were served, from `old` on, and then memory ran out: `new` is the
   -- state behind them, or what one line more left that has no answer (`HaltsAt`)
-  abbrev pub Reaches : S → List (List ℕ) → S → Type 0
-  Reaches old ls new = (done : List (List ℕ)) × (rest : List (List ℕ)) × (out : List ℕ) × (kept : List ℕ) × (mid : S) × (ls ≡ done ++ rest) × GoesKept old done out kept mid
-      × ((new ≡ mid) ⊎ ((line : List ℕ) × (more : List (List ℕ)) × (rest ≡ line ∷ more) × HaltsAt mid (said line) new))
+  pub record Reaches (old : S) (ls : List (List ℕ)) (new : S) : Type 0 where
+    pub done : List (List ℕ)
+    pub rest : List (List ℕ)
+    pub out : List ℕ
+    pub kept : List ℕ
+    pub mid : S
+    pub first_lines : ls ≡ done ++ rest
+    pub served : GoesKept old done out kept mid
+    pub ends : (new ≡ mid) ⊎ ((line : List ℕ) × (more : List (List ℕ)) × (rest ≡ line ∷ more) × HaltsAt mid (said line) new)
 
   -- that these lines were served, `old` to `new`, their whole output is written, `before` to `after` (none where
   -- unknown), and all that the log keeps of them is in the log, `log` to `held`, and synced, as `synced` is then all of

@@ -39,7 +39,7 @@ impl<C: Crew + Drop> EngineSession<C> {
 
     /// Gives back the crew and the engine. Takes no memory.
     pub fn into_parts(self) -> (C, Engine<Unwatched>)
-        ensures { result.1 ≡ self.entry }
+        ensures { result.1 ≡ self }
     {
         let EngineSession { crew, engine } = self;
         (crew, engine)

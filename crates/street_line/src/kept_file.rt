@@ -61,10 +61,10 @@ pub trait KeptFile: WriteAheadLog {
 
 /// Who is told what is done with a file before a session goes on from it.
 pub trait KeptNotices {
-    ghost use Rattle.street_line.specs.declared.redo.RedoneLines.{RedoneLines as Redone};
+    ghost use Rattle.street_line.specs.declared.redo.RedoneLines.{RedoneLines as RedoneSeen};
 
     /// What is known once it was told of these lines, and by nothing else.
-    ghost noted: { Self → Redone → Type 0 };
+    ghost noted: { Self → RedoneSeen → Type 0 };
 
     /// Tells that the lines of the file were done again.
     fn note_redone(&self, redo: RedoneLines)

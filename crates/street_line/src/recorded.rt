@@ -47,7 +47,7 @@ impl<C: Crew + Drop, F: Write + Drop> RecordedSession<C, F> {
 
     /// Gives back the writer, which is there between any two calls. Takes no memory.
     pub fn into_writer(self) -> Option<RecordWriter<F>>
-        ensures { result ≡ self.entry.writer }
+        ensures { result ≡ self.writer }
     {
         let RecordedSession {
             crew: _,

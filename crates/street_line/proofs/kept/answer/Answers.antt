@@ -23,4 +23,4 @@ returns-clause-halted g c =
 
 pub returns-in_err-note-clause-halted : goal.returns-in_err-note-clause-halted
 returns-in_err-note-clause-halted g c =
-    rw c.in-Ok.ensures (always_err c.from_residual.result _ (inr (c.in-Ok.command, c.serve-served.result, refl, c.serve-served.ensures)))
+    rw c.in-Ok.ensures (always_err c.from_residual-in_err-note.result _ (inr (c.in-Ok.command, c.serve-served.result, refl, c.serve-served.ensures)))

@@ -1,4 +1,4 @@
-use Rattle.std.proofs.Common.{rules, ◌≡◌, ℕ, ap, Vec, Global}
+use Rattle.std.proofs.Common.{rules, ◌≡◌, ◌++◌, ℕ, ap, Vec, Global}
 use Rattle.street_base.specs.declared.reply.Starved.{Starved}
 use Rattle.street_stream.proofs.HandlerReferences.{handles_part}
 use Rattle.street_line.proofs.KeptLines.{KeepsAt, halts_kept, owed_goes}
@@ -16,8 +16,8 @@ returns-in-Ok-clause-served g c = λ line is.
     (ap (λ (v : Vec ℕ Global). v.items) c.into_inner.ensures) in
     search rules
 
-pub returns-clause-halted : goal.returns-clause-halted
-returns-clause-halted g c = λ line is.
+pub returns-in-Err-clause-halted : goal.returns-in-Err-clause-halted
+returns-in-Err-clause-halted g c = λ line is.
     let halted = c.in-Err.ensures.halted line is in
     let part = halts_kept g.S.Service.serves (λ s. ((s.service.now, s.entries.now.items), s.entries.ghost_name)) (λ s. s.service.ghost_name) _ (line ++ c.args.bytes.now) _ _ _ halted in
     let same = part.0 in
