@@ -10,7 +10,7 @@ use std::marker::Model;
 use std::sync::Wait;
 use std::thread::Threads;
 use street_base::{Command, Outcome, Reply};
-use street_engine::{Engine, Gate};
+use street_engine::{Engine, Gate, Unrecorded};
 
 /// One call of the history.
 #[derive(Drop)]
@@ -125,7 +125,9 @@ impl<G: Gate + Sync + Drop> Recorder<G> {
         ensures room { self.new.calls ≡ self.old.calls }
         ensures legal { IsLegal self.new.history }
     {
-        let (reply, outcome) = self.engine.apply_by_team(rt, &command);
+        let (reply, outcome, _sink) = self
+            .engine
+            .apply_recording_by_team(rt, Unrecorded, &command);
         self.entries.push_reserved(Entry {
             session,
             command,

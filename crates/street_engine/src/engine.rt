@@ -41,7 +41,7 @@ pub struct Unwatched {
 }
 
 impl Unwatched {
-    /// For calls that never wait for another thread (`Engine::apply`): workers share a step where threads that are started for each
+    /// For calls that never wait for another thread ([`StartedCrew`](crate::StartedCrew)): workers share a step where threads that are started for each
     /// part of it save time.
     pub fn new() -> Self {
         Unwatched {
@@ -50,7 +50,7 @@ impl Unwatched {
         }
     }
 
-    /// For calls that may wait (`Engine::apply_by_team`), on so many processors: workers share a step where threads that stay save time.
+    /// For calls that may wait ([`StayingCrew`](crate::StayingCrew)), on so many processors: workers share a step where threads that stay save time.
     pub fn staying(processors: usize) -> Self {
         Unwatched {
             from: LEAST_STAYING,
@@ -172,20 +172,6 @@ impl<G: Gate + Sync + Drop> Engine<G> {
             sink,
             command,
         )
-    }
-
-    /// As [`apply`](Self::apply), and an advance is made by workers that stay, which wait for each other: it keeps the same promise
-    /// if it returns.
-    pub fn apply_by_team<R: Threads + Wait + Sync>(
-        &mut self,
-        rt: &R,
-        command: &Command,
-    ) -> (Reply, Outcome)
-        ensures serves { Serves self.old command.now result.0 result.1 self.new }
-        ensures refused { (refusal : Refusal) → result.0 ≡ Refused refusal → self.new ≡ self.old }
-    {
-        let (reply, outcome, _sink) = self.apply_recording_by_team(rt, Unrecorded, command);
-        (reply, outcome)
     }
 
     /// As [`apply_recording`](Self::apply_recording), and an advance is made by workers that stay, which wait for each other: it keeps

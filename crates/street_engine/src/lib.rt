@@ -5,10 +5,13 @@
 //!
 //! [`Streets`] holds the tiles of the network ([`street_tile::Tiles`]), the clock, how each vehicle ended, and where each detector
 //! is, behind contracts that name the machine alone.
+//!
+//! A [`Crew`] is who makes the steps of an engine's advances: whoever serves commands for others has one.
 #![tactic(auto)]
 
 mod clock_commands;
 mod commands;
+mod crew;
 mod crews;
 mod detector_commands;
 mod ends;
@@ -22,6 +25,7 @@ mod streets;
 mod teams;
 mod vehicle_commands;
 
+pub use crew::{Crew, StartedCrew, StayingCrew};
 pub use engine::{Engine, Unwatched};
 pub use sinks::{StepSink, Unrecorded};
 pub use sites::DetectorSite;

@@ -1,11 +1,12 @@
 -- Lines of a session that is kept.
-use Rattle.std.proofs.Common.{◌≡◌, ◌⊎◌, ◌∙◌, ℕ, ◌+◌, ◌-◌, ◌^◌, ◌<◌, ◌≤◌, ◌==◌, min, if◌then◌else◌, List, [], ◌∷◌, ◌++◌, length, take, Bool, true, false, OnOk, Option, Some, Result, Ok, Err, refl, sym, ap, subst, arith, inl, inr, append_assoc, append-nil, length-append, lt-ltb}
+use Rattle.std.proofs.Common.{◌≡◌, ◌⊎◌, ◌∙◌, ℕ, ◌+◌, ◌-◌, ◌^◌, ◌<◌, ◌≤◌, ◌==◌, min, if◌then◌else◌, List, [], ◌∷◌, ◌++◌, length, take, Bool, true, false, IfErr, OnOk, Option, Some, Result, Ok, Err, refl, sym, ap, subst, arith, inl, inr, append_assoc, append-nil, length-append, lt-ltb}
 use Rattle.std.proofs.KnownBytes.{Appends-nil, Appends-trans}
 use Rattle.std.proofs.Math.Seq.{take-append-add, take-length}
 use Rattle.std.proofs.lemmas.Bool.{cases_lt}
 use Rattle.std.proofs.lemmas.List.{take_all, length-take-le}
 use Rattle.std.specs.Io.KnownBytes.{Appends, Consumes}
 use Rattle.street_base.specs.declared.command.Command.{Command}
+use Rattle.street_base.specs.declared.reply.Starved.{Starved as NoMemory}
 use Rattle.street_stream.proofs.Cut.{cut_none, lines_more}
 use Rattle.street_stream.proofs.CutParts.{cut_append}
 use Rattle.street_stream.specs.HandledLines.{Effect, Gives, text_in, Handles, output}
@@ -20,7 +21,7 @@ use Rattle.street_stream.specs.declared.tally.FaultKind.{FaultKind}
 use Rattle.street_stream.specs.declared.tally.FaultKind.TheVariants.{Read, Endless}
 use Rattle.street_line.specs.declared.kept_runs.KeptFault.{KeptFault}
 use Rattle.street_line.specs.declared.kept_runs.KeptFault.TheVariants.{Run, Log as KeptLog}
-use Rattle.street_stream.specs.OpenTexts.{HaltsIn, IsOpen}
+use Rattle.street_stream.specs.OpenTexts.{HaltsAtEnd, HaltsIn, IsOpen}
 use Rattle.street_stream.specs.declared.open_text.OpenText.{OpenText}
 use Rattle.street_stream.proofs.HandlerReferences.{TakesPart, StopsPart, handles_part}
 use Rattle.street_stream.specs.declared.answer.StopCause.{StopCause}
@@ -33,7 +34,7 @@ use Rattle.street_line.specs.declared.redo.RedoStop.{RedoStop}
 use Rattle.street_line.specs.declared.redo.RedoStop.TheVariants as stop
 use Rattle.street_line.specs.Redo.{RedoLine, Redoes, RedoHalts, IsFaultOf, RedoStopLine}
 use Rattle.street_line.proofs.Said.{said_kept}
-use Rattle.street_line.specs.Kept.{AnswersKept, KeepsSaid, KeepsLine, GoesKept, Passed, PassStops, IsLast, KeptUpTo, KeptFirst, fault_of}
+use Rattle.street_line.specs.Kept.{AnswersKept, HaltsAt, KeepsSaid, KeepsLine, GoesKept, Passed, Reaches, PassStops, IsLast, KeptUpTo, KeptFirst, fault_of}
 use Rattle.street_line.specs.Runs.{Said, silent, faulty, calls, said, said_by}
 use Rattle.street_line.specs.ServedLine.{effect_of}
 use Rattle.street_line.specs.declared.service.Served.{Served}
@@ -140,32 +141,33 @@ module _ {S : Type 0} (serves : S → Command → Served → S → Type 0) where
 
   -- a fault ended the run between two reads
   pub ends_between : (start now : S) (unread log before left l0 w0 : Option (List ℕ)) (seen : List ℕ) (kind : FaultKind) → (kind ≡ Read) ⊎ (kind ≡ Endless)
-      → Passed serves start log before (cut seen).0 now l0 l0 w0 → Consumes unread left seen → KeptUpTo serves start unread log before (Run kind) left l0 l0 w0
+      → Passed serves start log before (cut seen).0 now l0 l0 w0 → Consumes unread left seen → KeptUpTo serves start unread log before (Run kind) now left l0 l0 w0
   ends_between start now unread log before left l0 w0 seen kind which h read = record {
     seen = seen;
     got = [];
     last = (cut ((cut seen).1 ++ [])).0;
+    begun = if_any (cut ((cut seen).1 ++ [])).1;
     mid = now;
     owed = l0;
     told = w0;
     read = rw (append-nil seen) read;
-    is_last = inl refl;
+    is_last = inl (refl, refl);
     passed = h;
     stops = elim which [
-      | inl is ↦ rw is (refl, refl, refl)
-      | inr is ↦ rw is (refl, refl, refl)
+      | inl is ↦ rw is (refl, refl, refl, refl)
+      | inr is ↦ rw is (refl, refl, refl, refl)
     ];
   }
 
   -- the lines that were done are the first of the text
-  last_lines : (left : Option (List ℕ)) (seen got : List ℕ) (ls : List (List ℕ)) → IsLast left seen got ls → (rest : List (List ℕ)) × (lines_of (seen ++ got) ≡ ((cut seen).0 ++ ls) ++ rest)
-  last_lines left seen got ls (inl is) = (if_any (cut ((cut seen).1 ++ got)).1, rw is (ap (λ (p : List (List ℕ) × List ℕ). p.0 ++ if_any p.1) (cut_append seen got)))
-  last_lines left seen got ls (inr is) = ([], rw (is.0, is.2) (ap lines_of (append-nil seen) ∙ sym (append-nil (lines_of seen))))
+  last_lines : (left : Option (List ℕ)) (seen got : List ℕ) (ls begun : List (List ℕ)) → IsLast left seen got ls begun → (rest : List (List ℕ)) × (lines_of (seen ++ got) ≡ ((cut seen).0 ++ ls) ++ rest)
+  last_lines left seen got ls begun (inl is) = (if_any (cut ((cut seen).1 ++ got)).1, rw is.0 (ap (λ (p : List (List ℕ) × List ℕ). p.0 ++ if_any p.1) (cut_append seen got)))
+  last_lines left seen got ls begun (inr is) = ([], rw (is.0, is.2) (ap lines_of (append-nil seen) ∙ sym (append-nil (lines_of seen))))
 
   -- nothing but what passed is out, and that and perhaps more is held and stays
-  first_passed : (start : S) (unread log before : Option (List ℕ)) (fault : KeptFault) (left held synced after : Option (List ℕ)) (h : KeptUpTo serves start unread log before fault left held synced after)
+  first_passed : (start : S) (unread log before : Option (List ℕ)) (fault : KeptFault) (now : S) (left held synced after : Option (List ℕ)) (h : KeptUpTo serves start unread log before fault now left held synced after)
       → after ≡ h.told → Extends h.owed held → Extends h.owed synced → KeptFirst serves start unread log before left held synced after
-  first_passed start unread log before fault left held synced after h is more stayed =
+  first_passed start unread log before fault now left held synced after h is more stayed =
       let passed = h.passed in
       let lines = lines_more h.seen h.got in
       record {
@@ -186,37 +188,37 @@ module _ {S : Type 0} (serves : S → Command → Served → S → Type 0) where
       }
 
   -- what is exact says so
-  pub first_up_to : (start : S) (unread log before : Option (List ℕ)) (fault : KeptFault) (left held synced after : Option (List ℕ)) → KeptUpTo serves start unread log before fault left held synced after
+  pub first_up_to : (start : S) (unread log before : Option (List ℕ)) (fault : KeptFault) (now : S) (left held synced after : Option (List ℕ)) → KeptUpTo serves start unread log before fault now left held synced after
       → KeptFirst serves start unread log before left held synced after
-  first_up_to start unread log before KeptLog left held synced after h =
+  first_up_to start unread log before KeptLog now left held synced after h =
       let stops = h.stops in
-      first_passed start unread log before KeptLog left held synced after h stops.4 (take stops.5.0 stops.1, stops.5.3) (take stops.5.1 stops.1, stops.5.4)
-  first_up_to start unread log before (Run Read) left held synced after h =
-      first_passed start unread log before (Run Read) left held synced after h h.stops.0 (rw h.stops.1 (extends_none h.owed)) (rw h.stops.2 (extends_none h.owed))
-  first_up_to start unread log before (Run Endless) left held synced after h =
-      first_passed start unread log before (Run Endless) left held synced after h h.stops.0 (rw h.stops.1 (extends_none h.owed)) (rw h.stops.2 (extends_none h.owed))
-  first_up_to start unread log before (Run kinds.Starved) left held synced after h =
-      first_passed start unread log before (Run kinds.Starved) left held synced after h h.stops.0 (rw h.stops.1 (extends_none h.owed)) (rw h.stops.2 (extends_none h.owed))
-  first_up_to start unread log before (Run kinds.Write) left held synced after h =
+      first_passed start unread log before KeptLog now left held synced after h stops.3 (take stops.4.0 stops.1, stops.4.3) (take stops.4.1 stops.1, stops.4.4)
+  first_up_to start unread log before (Run Read) now left held synced after h =
+      first_passed start unread log before (Run Read) now left held synced after h h.stops.0 (rw h.stops.1 (extends_none h.owed)) (rw h.stops.2 (extends_none h.owed))
+  first_up_to start unread log before (Run Endless) now left held synced after h =
+      first_passed start unread log before (Run Endless) now left held synced after h h.stops.0 (rw h.stops.1 (extends_none h.owed)) (rw h.stops.2 (extends_none h.owed))
+  first_up_to start unread log before (Run kinds.Starved) now left held synced after h =
+      first_passed start unread log before (Run kinds.Starved) now left held synced after h h.stops.0 (rw h.stops.1 (extends_none h.owed)) (rw h.stops.2 (extends_none h.owed))
+  first_up_to start unread log before (Run kinds.Write) now left held synced after h =
       let passed = h.passed in
       let stops = h.stops in
-      let lines = last_lines left h.seen h.got h.last h.is_last in
-      let holds : Appends log held (passed.kept ++ stops.1) = Appends-trans log h.owed held passed.kept stops.1 passed.holds stops.5 in
+      let lines = last_lines left h.seen h.got h.last h.begun h.is_last in
+      let holds : Appends log held (passed.kept ++ stops.1) = Appends-trans log h.owed held passed.kept stops.1 passed.holds stops.4 in
       record {
         text = h.seen ++ h.got;
         done = (cut h.seen).0 ++ h.last;
         rest = lines.0;
         out = passed.out ++ stops.0;
         kept = passed.kept ++ stops.1;
-        mid = stops.2;
-        sent = length passed.out + stops.4.0;
+        mid = now;
+        sent = length passed.out + stops.3.0;
         read = h.read;
         first_lines = lines.1;
-        served = goes_both start h.mid stops.2 (cut h.seen).0 h.last passed.out passed.kept stops.0 stops.1 passed.served stops.3;
-        within = omega (arith, stops.4.1, length-append passed.out stops.0);
-        written = rw (take-append-add passed.out stops.0 stops.4.0) (Appends-trans before h.told after passed.out (take stops.4.0 stops.0) passed.written stops.4.2);
+        served = goes_both start h.mid now (cut h.seen).0 h.last passed.out passed.kept stops.0 stops.1 passed.served stops.2;
+        within = omega (arith, stops.3.1, length-append passed.out stops.0);
+        written = rw (take-append-add passed.out stops.0 stops.3.0) (Appends-trans before h.told after passed.out (take stops.3.0 stops.0) passed.written stops.3.2);
         holds = ([], rw (append-nil (passed.kept ++ stops.1)) holds);
-        stays = rw stops.6 ([], rw (append-nil (passed.kept ++ stops.1)) holds);
+        stays = rw stops.5 ([], rw (append-nil (passed.kept ++ stops.1)) holds);
       }
 
   -- what is kept of a line is answered as the whole line
@@ -234,12 +236,49 @@ module _ {S : Type 0} (serves : S → Command → Served → S → Type 0) where
       same_line old (Err f) line bytes out entry new same h = h
 
   -- what the log or the writer left where it failed
-  pub stops_kept : {L W : Type 0} (held synced : L → Option (List ℕ)) (has_failed : L → Type 0) (contents : W → Option (List ℕ)) (old new : S) (ls : List (List ℕ)) (l k : L) (w v : Counted W)
+  pub stops_kept : {L W : Type 0} (held synced : L → Option (List ℕ)) (has_failed : L → Type 0) (contents : W → Option (List ℕ)) (old new : S) (ls begun : List (List ℕ)) (l k : L) (w v : Counted W)
       (entries replies : List ℕ) (fault : KeepFault) → GoesKept serves old ls replies entries new → KeepStops held synced has_failed contents l w entries replies k v fault
-      → PassStops serves old (held l) (synced l) (contents w.stream) ls (fault_of fault) (held k) (synced k) (contents v.stream)
-  stops_kept {L} {W} held synced has_failed contents old new ls l k w v entries replies Log goes h =
-      (replies, entries, new, goes, ap (λ (x : Counted W). contents x.stream) h.0, h.1)
-  stops_kept held synced has_failed contents old new ls l k w v entries replies Output goes h = (replies, entries, new, goes, h.2, h.0, h.1)
+      → PassStops serves old (held l) (synced l) (contents w.stream) ls begun (fault_of fault) new (held k) (synced k) (contents v.stream)
+  stops_kept {L} {W} held synced has_failed contents old new ls begun l k w v entries replies Log goes h =
+      (replies, entries, goes, ap (λ (x : Counted W). contents x.stream) h.0, h.1)
+  stops_kept held synced has_failed contents old new ls begun l k w v entries replies Output goes h = (replies, entries, goes, h.2, h.0, h.1)
+
+  -- ---- lines of which one has no answer
+
+  abbrev pub HaltsLine : (S × List ℕ) × ℕ → List ℕ → NoMemory → (S × List ℕ) × ℕ → Type 0
+  HaltsLine old line stop new = HaltsAt serves (old.0).0 (said line) (new.0).0
+
+  -- lines that were handled by what holds the service and the entries, each by a reference
+  went_kept : {A : Type 0} (part : A → (S × List ℕ) × ℕ) (name : A → ℕ) (old : A) (ls : List (List ℕ)) (es : List Effect) (new : A)
+      → Handles (TakesPart part name KeepsAt HaltsLine) old ls es new → (name new ≡ name old) × ((kept : List ℕ) × GoesKept serves ((part old).0).0 ls (output es) kept ((part new).0).0)
+  went_kept part name old ls es new h =
+      let went = handles_part part name KeepsAt HaltsLine old ls es new h in
+      let both = handles_part (λ (p : (S × List ℕ) × ℕ). p.0) (λ p. p.1) (KeepsLine serves) (λ b l (stop : NoMemory) n. HaltsAt serves b.0 (said l) n.0) (part old) ls es (part new) went.1 in
+      let goes = goes_kept (part old).0 ls es (part new).0 both.1 in
+      (went.0, (goes.0, goes.1))
+
+  pub halts_kept : {A : Type 0} (part : A → (S × List ℕ) × ℕ) (name : A → ℕ) (old : A) (text : List ℕ) (new : A) (cause : StopCause NoMemory) (tally : Tally)
+      → HaltsIn (record { longest = longest_line; takes = TakesPart part name KeepsAt HaltsLine; stops = StopsPart part name KeepsAt HaltsLine }) old text new cause tally
+      → (name new ≡ name old) × Reaches serves ((part old).0).0 (lines_of text) ((part new).0).0
+  halts_kept part name old text new (causes.Run why) tally h =
+      let went = went_kept part name old h.0 h.2 new h.4 in
+      (went.0, record { done = h.0; rest = h.1; out = output h.2; kept = went.1.0; mid = ((part new).0).0; first_lines = h.3; served = went.1.1; ends = inl refl })
+  halts_kept part name old text new (causes.Line stop) tally h =
+      let went = went_kept part name old h.0 h.3 h.4 h.6 in
+      let last : List (List ℕ) = if_any (cut text).1 in
+      let lines : lines_of text ≡ h.0 ++ h.1 ∷ (h.2 ++ last) = ap (λ (ls : List (List ℕ)). ls ++ last) h.5 ∙ append_assoc h.0 (h.1 ∷ h.2) last in
+      (h.7.0 ∙ went.0, record { done = h.0; rest = h.1 ∷ (h.2 ++ last); out = output h.3; kept = went.1.0; mid = ((part h.4).0).0; first_lines = lines; served = went.1.1; ends = inr (h.1, h.2 ++ last, refl, h.7.1) })
+
+  pub halts_last : {A : Type 0} (part : A → (S × List ℕ) × ℕ) (name : A → ℕ) (old : A) (line : List ℕ) (new : A) (cause : StopCause NoMemory) (tally : Tally)
+      → HaltsAtEnd (record { longest = longest_line; takes = TakesPart part name KeepsAt HaltsLine; stops = StopsPart part name KeepsAt HaltsLine }) old line new cause tally
+      → (name new ≡ name old) × Reaches serves ((part old).0).0 (if_any line) ((part new).0).0
+  halts_last part name old line new (causes.Run why) tally h =
+      let went = went_kept part name old h.0 h.2 new h.4 in
+      (went.0, record { done = h.0; rest = h.1; out = output h.2; kept = went.1.0; mid = ((part new).0).0; first_lines = h.3; served = went.1.1; ends = inl refl })
+  halts_last part name old line new (causes.Line stop) tally h =
+      (h.1.0, record { done = []; rest = line ∷ []; out = []; kept = []; mid = ((part old).0).0; first_lines = h.0; served = (refl, refl, refl); ends = inr (line, [], refl, h.1.1) })
+
+  -- ---- what passed
 
   -- what passed is held
   pub passed_held : (old new : S) (log before held synced after : Option (List ℕ)) (ls : List (List ℕ)) → Passed serves old log before ls new held synced after
@@ -312,6 +351,11 @@ open_more most text seen bytes is = rw (cut_append seen bytes) is
 
 pub open_none : (most : ℕ) (text : OpenText) → IsOpen most text [] → IsOpen most text (cut []).1
 open_none most text is = rw cut_none is
+
+-- where something holds anyway, it holds after an error
+pub always_err : {T E : Type 0} (r : Result T E) (P : Type 0) → P → IfErr r (λ e. P)
+always_err (Ok x) P p = tt
+always_err (Err e) P p = p
 
 pub on_ok : {T E : Type 0} (r : Result T E) (P Q : Type 0) → (P → Q) → OnOk r P → OnOk r Q
 on_ok (Ok x) P Q f h = f h

@@ -54,7 +54,7 @@ pub broken_goes_on : (start : State) (had stayed unread before : Option (List �
     → ServeBreaks MachineServes start had stayed unread before now left held synced after (Session fault) → had ≡ Some text → synced ≡ Some file → KeepsAnswered start file before after
 broken_goes_on start had stayed unread before now left held synced after fault text file h known stays =
     let r = h.3.redone in
-    let first = first_up_to MachineServes h.0 unread h.1 before fault left held synced after h.4 in
+    let first = first_up_to MachineServes h.0 unread h.1 before fault now left held synced after h.4 in
     let log = log_whole had h.1 text r.whole r.torn (h.2).bytes known r.is_text r.bytes h.3.cut_off in
     let same = grown h.1 synced r.whole file (first.kept ++ first.stays.0) log stays first.stays.1 in
     let inside : AllInside first.done = inside_first first.done first.rest (rw first.first_lines at (lines_inside first.text)) in

@@ -58,10 +58,12 @@ IsEntry line Unrecorded entry = ⊥
 abbrev pub IsNoted : List ℕ → Served → List ℕ → List ℕ → Type 0
 IsNoted line served old new = (entry : List ℕ) × IsEntry line served entry × (new ≡ old ++ entry)
 
--- that ls are the lines that end in the bytes `got` of the last read, behind the text `seen`; or, where `got` is empty
--- at the text's end, the one line without LF that is left of `seen`, if there is one
-abbrev pub IsLast : Option (List ℕ) → List ℕ → List ℕ → List (List ℕ) → Type 0
-IsLast left seen got ls = (ls ≡ (cut ((cut seen).1 ++ got)).0) ⊎ ((got ≡ []) × IsAtEnd left × (ls ≡ if_any (cut seen).1))
+-- that ls are the lines that end in the bytes `got` of the last read, behind the text `seen`, and `begun` is the line that
+-- has begun behind them, if there is one; or, where `got` is empty at the text's end, that ls are the one line without LF
+-- that is left of `seen`, if there is one, and none has begun
+abbrev pub IsLast : Option (List ℕ) → List ℕ → List ℕ → List (List ℕ) → List (List ℕ) → Type 0
+IsLast left seen got ls begun = ((ls ≡ (cut ((cut seen).1 ++ got)).0) × (begun ≡ if_any (cut ((cut seen).1 ++ got)).1))
+    ⊎ ((got ≡ []) × IsAtEnd left × (ls ≡ if_any (cut seen).1) × (begun ≡ []))
 
 module _ {S : Type 0} (serves : S → Command → Served → S → Type 0) where
   -- that a line that says this was served, a command as `serves` says, with output `out`, and the log keeps `entry` of
@@ -94,6 +96,23 @@ module _ {S : Type 0} (serves : S → Command → Served → S → Type 0) where
       (mid : S) × (first : List ℕ) × (entry : List ℕ) × (rest : List ℕ) × (more : List ℕ) × KeepsSaid old (said l) l first entry mid
       × GoesKept mid ls rest more new × (out ≡ first ++ rest) × (kept ≡ entry ++ more)
 
+  -- that a line that says this has no answer, as memory ran out or its record could not be written: nothing changed, or
+  -- its command was served, as `serves` says
+  abbrev pub HaltsAt : S → Said → S → Type 0
+  HaltsAt old what new = (new ≡ old) ⊎ ((c : Command) × (served : Served) × (what ≡ calls c) × serves old c served new)
+
+  -- that of these lines the first, perhaps all or none, were served, from `old` on, and then memory ran out: `new` is the
+  -- state behind them, or what one line more left that has no answer (`HaltsAt`)
+  pub record Reaches (old : S) (ls : List (List ℕ)) (new : S) : Type 0 where
+    pub done : List (List ℕ)
+    pub rest : List (List ℕ)
+    pub out : List ℕ
+    pub kept : List ℕ
+    pub mid : S
+    pub first_lines : ls ≡ done ++ rest
+    pub served : GoesKept old done out kept mid
+    pub ends : (new ≡ mid) ⊎ ((line : List ℕ) × (more : List (List ℕ)) × (rest ≡ line ∷ more) × HaltsAt mid (said line) new)
+
   -- that these lines were served, `old` to `new`, their whole output is written, `before` to `after` (none where
   -- unknown), and all that the log keeps of them is in the log, `log` to `held`, and synced, as `synced` is then all of
   -- `held`
@@ -105,19 +124,20 @@ module _ {S : Type 0} (serves : S → Command → Served → S → Type 0) where
     pub holds : Appends log held kept
     pub stays : synced ≡ held
 
-  -- that a fault left this of these lines: where the log failed, no reply went out, and first bytes of what it keeps
-  -- are in it, of which no more are synced; where the writer failed, all is kept and synced, and first bytes of the
-  -- output are written; else all is as it was
-  abbrev pub PassStops : S → Option (List ℕ) → Option (List ℕ) → Option (List ℕ) → List (List ℕ) → KeptFault → Option (List ℕ) → Option (List ℕ) → Option (List ℕ) → Type 0
-  PassStops old log stayed before ls Log held synced after =
-      (out : List ℕ) × (kept : List ℕ) × (new : S) × GoesKept old ls out kept new × (after ≡ before)
+  -- that a fault left this of these lines, and of the line that has begun behind them: where the log failed, all were
+  -- served, no reply went out, and first bytes of what it keeps are in it, of which no more are synced; where the writer
+  -- failed, all were served, all is kept and synced, and first bytes of the output are written; where memory ran out,
+  -- the first were served (`Reaches`), and all else is as it was; at a read nothing was served
+  abbrev pub PassStops : S → Option (List ℕ) → Option (List ℕ) → Option (List ℕ) → List (List ℕ) → List (List ℕ) → KeptFault → S → Option (List ℕ) → Option (List ℕ) → Option (List ℕ) → Type 0
+  PassStops old log stayed before ls begun Log new held synced after =
+      (out : List ℕ) × (kept : List ℕ) × GoesKept old ls out kept new × (after ≡ before)
       × ((sent : ℕ) × (safe : ℕ) × (safe ≤ sent) × Appends log held (take sent kept) × Appends stayed synced (take safe kept))
-  PassStops old log stayed before ls (Run Write) held synced after =
-      (out : List ℕ) × (kept : List ℕ) × (new : S) × GoesKept old ls out kept new × ((sent : ℕ) × (sent ≤ length out) × Appends before after (take sent out))
+  PassStops old log stayed before ls begun (Run Write) new held synced after =
+      (out : List ℕ) × (kept : List ℕ) × GoesKept old ls out kept new × ((sent : ℕ) × (sent ≤ length out) × Appends before after (take sent out))
       × Appends log held kept × (synced ≡ held)
-  PassStops old log stayed before ls (Run Starved) held synced after = (after ≡ before) × (held ≡ log) × (synced ≡ stayed)
-  PassStops old log stayed before ls (Run Read) held synced after = (after ≡ before) × (held ≡ log) × (synced ≡ stayed)
-  PassStops old log stayed before ls (Run Endless) held synced after = (after ≡ before) × (held ≡ log) × (synced ≡ stayed)
+  PassStops old log stayed before ls begun (Run Starved) new held synced after = (after ≡ before) × (held ≡ log) × (synced ≡ stayed) × Reaches old (ls ++ begun) new
+  PassStops old log stayed before ls begun (Run Read) new held synced after = (after ≡ before) × (held ≡ log) × (synced ≡ stayed) × (new ≡ old)
+  PassStops old log stayed before ls begun (Run Endless) new held synced after = (after ≡ before) × (held ≡ log) × (synced ≡ stayed) × (new ≡ old)
 
   -- ---- whole runs
 
@@ -130,20 +150,21 @@ module _ {S : Type 0} (serves : S → Command → Served → S → Type 0) where
     pub at_end : IsAtEnd left
     pub passed : Passed start log before (lines_of text) now held synced after
 
-  -- that a fault ended the run: all lines that ended before the last read were served, their output is written and
-  -- their log synced (`Passed`); what is left of the lines of the last read, or of the last line without LF,
+  -- that a fault ended the run in state `now`: all lines that ended before the last read were served, their output is
+  -- written and their log synced (`Passed`); what is left of the lines of the last read, or of the last line without LF,
   -- `PassStops` says
-  pub record KeptUpTo (start : S) (unread log before : Option (List ℕ)) (fault : KeptFault) (left held synced after : Option (List ℕ)) : Type 0 where
+  pub record KeptUpTo (start : S) (unread log before : Option (List ℕ)) (fault : KeptFault) (now : S) (left held synced after : Option (List ℕ)) : Type 0 where
     pub seen : List ℕ
     pub got : List ℕ
     pub last : List (List ℕ)
+    pub begun : List (List ℕ)
     pub mid : S
     pub owed : Option (List ℕ)
     pub told : Option (List ℕ)
     pub read : Consumes unread left (seen ++ got)
-    pub is_last : IsLast left seen got last
+    pub is_last : IsLast left seen got last begun
     pub passed : Passed start log before (cut seen).0 mid owed owed told
-    pub stops : PassStops mid owed owed told last fault held synced after
+    pub stops : PassStops mid owed owed told last begun fault now held synced after
 
   -- that of the text that was read the first lines, perhaps all or none, were served, first bytes of their output are
   -- written, and all that the log keeps of these lines is in the log and synced, perhaps with more behind it

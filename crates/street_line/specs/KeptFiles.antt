@@ -8,6 +8,7 @@ use Rattle.street_stream.specs.Logs.{Extends}
 use Rattle.street_line.specs.Redo.{RedoBroke, Redoes}
 use Rattle.street_line.specs.Kept.{IsKeptCaused, KeptUpTo, KeptWhole}
 use Rattle.street_line.specs.declared.redo.RedoneLines.{RedoneLines}
+use Rattle.street_line.specs.declared.kept_runs.KeptFault.{KeptFault}
 use Rattle.street_line.specs.declared.kept_file.BeginFault.{BeginFault}
 use Rattle.street_line.specs.declared.kept_file.BeginFault.TheVariants.{Foreign, Recover, Settle}
 use Rattle.street_line.specs.declared.kept_file.ServeFault.{ServeFault}
@@ -84,7 +85,7 @@ module _ {S : Type 0} (serves : S → Command → Served → S → Type 0) where
     -- left what these say
     abbrev pub ServeBreaks : ServeFault → Type 0
     ServeBreaks (Begin fault) = BeginBreaks start had stayed now held synced fault × (after ≡ before)
-    ServeBreaks (Session fault) = (mid : S) × (log : Option (List ℕ)) × (redo : RedoneLines) × Recovered start had mid log redo × KeptUpTo serves mid unread log before fault left held synced after
+    ServeBreaks (Session fault) = (mid : S) × (log : Option (List ℕ)) × (redo : RedoneLines) × Recovered start had mid log redo × KeptUpTo serves mid unread log before fault now left held synced after
 
 -- that a fault before a session went on has its cause: where the file was to be written anew, the file has failed; of a
 -- fault at its lines, or of a file with none, no cause is asked
@@ -93,8 +94,13 @@ IsBeginCaused has_failed (Recover fault) file = ⊤
 IsBeginCaused has_failed Foreign file = ⊤
 IsBeginCaused has_failed Settle file = has_failed file
 
--- that a fault of a session that goes on from a file has its cause: the file has failed, or reader or writer counted it
--- (`IsKeptCaused`); of a fault at the file's lines, or of memory, no cause is asked
-abbrev pub IsServeCaused : {K R W : Type 0} → (K → Type 0) → ServeFault → Counted R → K → Counted W → ℕ → Type 0
-IsServeCaused has_failed (Begin fault) reader file writer reads = IsBeginCaused has_failed fault file
-IsServeCaused has_failed (Session fault) reader file writer reads = IsKeptCaused has_failed fault reader file writer reads
+-- that a fault of a session on a file has its cause: the file has failed, and what was not synced was cut off it, where
+-- that can be done (`withdrawn`); or reader or writer counted it (`IsKeptCaused`)
+abbrev pub IsRunCaused : {K R W : Type 0} → (K → Type 0) → (K → Type 0) → KeptFault → Counted R → K → Counted W → ℕ → Type 0
+IsRunCaused has_failed withdrawn fault reader file writer reads = IsKeptCaused (λ f. has_failed f × withdrawn f) fault reader file writer reads
+
+-- that a fault of a session that goes on from a file has its cause: that of a fault before it went on
+-- (`IsBeginCaused`), or of one in it (`IsRunCaused`); of a fault at the file's lines, or of memory, no cause is asked
+abbrev pub IsServeCaused : {K R W : Type 0} → (K → Type 0) → (K → Type 0) → ServeFault → Counted R → K → Counted W → ℕ → Type 0
+IsServeCaused has_failed withdrawn (Begin fault) reader file writer reads = IsBeginCaused has_failed fault file
+IsServeCaused has_failed withdrawn (Session fault) reader file writer reads = IsRunCaused has_failed withdrawn fault reader file writer reads

@@ -28,8 +28,8 @@ module _ {K D W : Type 0} (held synced : K → Option (List ℕ)) (remaining : D
       × ServesOn MachineServes old (held file) (remaining reader.stream) (contents writer.stream) redo new (remaining read.stream) (held kept) (synced kept) (contents written.stream)
 
   -- that, for any state for which the engine stood, a fault ended a session of the machine that goes on from the file,
-  -- before it served any line of the reader or behind some of them (`ServeBreaks`); of the engine afterwards nothing is
-  -- said
-  abbrev pub EngineServesOnFirst : EngineView → K → Counted D → Counted W → K → Counted D → Counted W → ServeFault → Type 0
-  EngineServesOnFirst before file reader writer kept read written fault = (old : State) → StandsFor before old
-      → MachineServesOnFirst old file reader writer kept read written fault
+  -- before it served any line of the reader or behind some of them (`ServeBreaks`), and the engine stands for the state
+  -- in which it ended
+  abbrev pub EngineServesOnFirst : EngineView → K → Counted D → Counted W → EngineView → K → Counted D → Counted W → ServeFault → Type 0
+  EngineServesOnFirst before file reader writer after kept read written fault = (old : State) → StandsFor before old → (new : State) × StandsFor after new
+      × ServeBreaks MachineServes old (held file) (synced file) (remaining reader.stream) (contents writer.stream) new (remaining read.stream) (held kept) (synced kept) (contents written.stream) fault

@@ -1,5 +1,4 @@
-//! Lines served by an engine; workers, where it has several, are started anew for each part of a step. A run with no desk and one
-//! worker calls it; several stay, in `teams.rt`.
+//! Lines served by an engine, whose advances a crew makes. A run with no desk calls it.
 ghost use Rattle.std.specs.Prelude.{◌≡◌, ◌≤◌, IfOk, IfErr, OnOk};
 ghost use Rattle.street_base.specs.Prelude.{most_reads};
 ghost use Rattle.street_stream.specs.Streams.{IsFlushed, IsFresh, IsPrompt};
@@ -11,25 +10,18 @@ use crate::service::{Served, Service};
 use std::alloc::Global;
 use std::io::{Read, Write};
 use std::marker::Model;
-use std::thread::Threads;
 use street_base::Command;
-use street_engine::{Engine, Unwatched};
+use street_engine::{Crew, Engine, Unrecorded, Unwatched};
 use street_stream::{Counted, RunFault, Tally};
 
-/// An engine as a service, with the runtime whose threads its workers run on.
-pub struct EngineSession<'a, R: Threads + Sync> {
-    rt: &'a R,
+/// An engine as a service, with who makes its steps.
+#[derive(Drop)]
+pub struct EngineSession<C: Crew + Drop> {
+    crew: C,
     engine: Engine<Unwatched>,
 }
 
-impl<'a, R: Threads + Sync> Drop for EngineSession<'a, R> {
-    /// Drops the engine.
-    fn drop(self) {
-        let EngineSession { rt: _, engine: _ } = self;
-    }
-}
-
-impl<'a, R: Threads + Sync> Model for EngineSession<'a, R> {
+impl<C: Crew + Drop> Model for EngineSession<C> {
     ghost use Rattle.street_engine.specs.Prelude.{EngineView};
 
     ghost Value = { EngineView };
@@ -37,34 +29,33 @@ impl<'a, R: Threads + Sync> Model for EngineSession<'a, R> {
     ghost view = { λ s. s.engine };
 }
 
-impl<'a, R: Threads + Sync> EngineSession<'a, R> {
-    /// The engine as a service, on this runtime's threads. Takes no memory.
-    pub fn new(rt: &'a R, engine: Engine<Unwatched>) -> EngineSession<'a, R>
+impl<C: Crew + Drop> EngineSession<C> {
+    /// The engine as a service, whose steps this crew makes. Takes no memory.
+    pub fn new(crew: C, engine: Engine<Unwatched>) -> EngineSession<C>
         ensures { result ≡ engine }
     {
-        EngineSession { rt, engine }
+        EngineSession { crew, engine }
     }
 
-    /// Gives back the engine. Takes no memory.
-    pub fn into_engine(self) -> Engine<Unwatched>
-        ensures { result ≡ self.entry }
+    /// Gives back the crew and the engine. Takes no memory.
+    pub fn into_parts(self) -> (C, Engine<Unwatched>)
+        ensures { result.1 ≡ self }
     {
-        let EngineSession { rt: _, engine } = self;
-        engine
+        let EngineSession { crew, engine } = self;
+        (crew, engine)
     }
 }
 
-impl<'a, R: Threads + Sync> Service for EngineSession<'a, R> {
-    ghost use Rattle.std.specs.Thread.{IsSync};
+impl<C: Crew + Drop> Service for EngineSession<C> {
     ghost use Rattle.street_line.specs.Engines.{EngineServes};
 
     ghost serves = { EngineServes };
 
-    ghost ready = { IsSync R.row };
+    ghost ready = { C.ready };
 
-    /// Has the engine apply the command. It always answers.
+    /// Has the engine apply the command. It always answers, if the crew returns.
     fn serve(&mut self, command: Command) -> Served {
-        let (reply, _outcome) = self.engine.apply(self.rt, &command);
+        let (reply, _outcome, _sink) = self.crew.apply(&mut self.engine, Unrecorded, &command);
         Served::Answered(reply)
     }
 }
@@ -76,12 +67,13 @@ impl<'a, R: Threads + Sync> Service for EngineSession<'a, R> {
 /// # Errors
 ///
 /// Those of [`run_lines`].
-pub fn run_engine<R: Threads + Sync, D: Read, W: Write>(
+pub fn run_engine<C: Crew + Drop, D: Read, W: Write>(
     alloc: Global,
-    session: &mut EngineSession<'_, R>,
+    session: &mut EngineSession<C>,
     reader: &mut Counted<D>,
     writer: &mut Counted<W>,
 ) -> Result<Tally, RunFault>
+    requires ready { C.ready }
     requires reader { IsFresh reader.old }
     requires writer { IsFresh writer.old }
     ensures served { IfOk result (EngineServesAll D.remaining W.contents

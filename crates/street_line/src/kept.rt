@@ -1,10 +1,10 @@
 //! Lines served in memory: their replies, and what is to be kept of them; nothing is written. A line whose command was done, and
 //! may change the traffic, is kept as it came. `kept_runs.rt` calls it for the bytes of each read.
-ghost use Rattle.std.specs.Prelude.{◌≡◌, ◌<◌, ◌^◌, ◌++◌, [], List, ℕ, IfOk, OnOk, length};
-ghost use Rattle.street_stream.specs.Lines.{cut, if_any};
+ghost use Rattle.std.specs.Prelude.{◌≡◌, ◌<◌, ◌^◌, ◌++◌, [], List, ℕ, IfErr, IfOk, OnErr, OnOk, length};
+ghost use Rattle.street_stream.specs.Lines.{cut, if_any, lines_of};
 ghost use Rattle.street_stream.specs.OpenTexts.{IsOpen};
 ghost use Rattle.street_text.specs.LineCommands.{longest_line, reading};
-ghost use Rattle.street_line.specs.Kept.{AnswersKept, GoesKept, IsNoted, is_change, is_short};
+ghost use Rattle.street_line.specs.Kept.{AnswersKept, GoesKept, HaltsAt, IsNoted, Reaches, is_change, is_short};
 ghost use Rattle.street_line.specs.Runs.{said_by};
 
 use crate::answers::answer_to;
@@ -96,8 +96,9 @@ fn answer<S: Service>(
     line: &[u8],
 ) -> Result<LineAnswer, Starved>
     requires ready { S.ready }
-    ensures { IfOk result (λ answer. AnswersKept S.serves (service.old, entries.old.items) (said_by (reading line.now)) line.now answer
+    ensures kept { IfOk result (λ answer. AnswersKept S.serves (service.old, entries.old.items) (said_by (reading line.now)) line.now answer
         (service.new, entries.new.items)) }
+    ensures halted { IfErr result (λ starved. HaltsAt S.serves service.old (said_by (reading line.now)) service.new) }
 {
     let command = match reader.read(alloc, line) {
         Ok(command) => command,
@@ -116,7 +117,8 @@ fn answer<S: Service>(
 
 impl<'a, S: Service> LineHandler for KeptServer<'a, S> {
     ghost use Rattle.std.specs.Prelude.{◌≡◌};
-    ghost use Rattle.street_line.specs.Kept.{KeepsLine};
+    ghost use Rattle.street_line.specs.Kept.{HaltsAt, KeepsLine};
+    ghost use Rattle.street_line.specs.Runs.{said};
     ghost use Rattle.street_text.specs.LineCommands.{longest_line};
 
     type Stop = Starved;
@@ -126,7 +128,7 @@ impl<'a, S: Service> LineHandler for KeptServer<'a, S> {
       takes = λ old line effect new. (new.service.ghost_name ≡ old.service.ghost_name)
           × ((new.entries.ghost_name ≡ old.entries.ghost_name)
           × KeepsLine S.serves (old.service.now, old.entries.now.items) line effect (new.service.now, new.entries.now.items));
-      stops = λ old line stop new. new.service.ghost_name ≡ old.service.ghost_name;
+      stops = λ old line stop new. (new.service.ghost_name ≡ old.service.ghost_name) × HaltsAt S.serves old.service.now (said line) new.service.now;
     } };
 
     ghost ready = { S.ready };
@@ -154,7 +156,7 @@ impl<'a, S: Service> LineHandler for KeptServer<'a, S> {
 ///
 /// # Errors
 ///
-/// Memory ran out: what was served then is not to be answered.
+/// Memory ran out: what was served then, the first lines or also one behind them, is not to be answered.
 pub(crate) fn serve_more<S: Service>(
     alloc: Global,
     service: &mut S,
@@ -167,6 +169,7 @@ pub(crate) fn serve_more<S: Service>(
     ensures served { (line : List ℕ) → IsOpen longest_line text.old line → IfOk result (λ pending.
         GoesKept S.serves service.old (cut (line ++ bytes.now)).0 pending.replies.items pending.entries.items service.new) }
     ensures open { (line : List ℕ) → IsOpen longest_line text.old line → IfOk result (λ pending. IsOpen longest_line text.new (cut (line ++ bytes.now)).1) }
+    ensures halted { (line : List ℕ) → IsOpen longest_line text.old line → OnErr result (Reaches S.serves service.old (lines_of (line ++ bytes.now)) service.new) }
 {
     let mut writer = Counted::new(Vec::new(alloc));
     let mut entries = Vec::new(alloc);
@@ -195,9 +198,10 @@ pub(crate) fn serve_last<S: Service>(
     reader: &mut LineReader,
     text: OpenText,
 ) -> Result<PendingOutput, Starved>
-    requires { S.ready }
-    ensures { (line : List ℕ) → IsOpen longest_line text line → IfOk result (λ pending.
+    requires ready { S.ready }
+    ensures served { (line : List ℕ) → IsOpen longest_line text line → IfOk result (λ pending.
         GoesKept S.serves service.old (if_any line) pending.replies.items pending.entries.items service.new) }
+    ensures halted { (line : List ℕ) → IsOpen longest_line text line → OnErr result (Reaches S.serves service.old (if_any line) service.new) }
 {
     let mut writer = Counted::new(Vec::new(alloc));
     let mut entries = Vec::new(alloc);

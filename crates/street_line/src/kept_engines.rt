@@ -8,11 +8,9 @@ ghost use Rattle.street_line.specs.KeptStreams.{EngineServesOn, EngineServesOnFi
 use crate::engines::EngineSession;
 use crate::kept_file::{KeptFile, KeptNotices, ServeFault, serve_on};
 use crate::redo::RedoneLines;
-use crate::teams::TeamSession;
 use std::alloc::Global;
 use std::io::{Read, Write};
-use std::sync::Wait;
-use std::thread::Threads;
+use street_engine::Crew;
 use street_stream::Counted;
 
 /// Goes on from the lines that a file has, by an engine, as [`serve_on`] does: what is written is what the machine says to the lines of the
@@ -22,48 +20,23 @@ use street_stream::Counted;
 /// # Errors
 ///
 /// Those of [`serve_on`].
-pub fn keep_engine<R: Threads + Sync, K: KeptFile, N: KeptNotices, D: Read, W: Write>(
+pub fn keep_engine<C: Crew + Drop, K: KeptFile, N: KeptNotices, D: Read, W: Write>(
     alloc: Global,
-    session: &mut EngineSession<'_, R>,
+    session: &mut EngineSession<C>,
     file: &mut K,
     notes: &N,
     reader: &mut Counted<D>,
     writer: &mut Counted<W>,
 ) -> Result<RedoneLines, ServeFault>
+    requires ready { C.ready }
     requires sound { K.has_failed file.old → ⊥ }
     requires reader { IsFresh reader.old }
     ensures whole { IfOk result (EngineServesOn K.held K.synced D.remaining W.contents
         session.old file.old reader.old writer.old session.new file.new reader.new writer.new) }
     ensures broken { IfErr result (EngineServesOnFirst K.held K.synced D.remaining W.contents
-        session.old file.old reader.old writer.old file.new reader.new writer.new) }
-    ensures caused { IfErr result (λ fault. IsServeCaused K.has_failed fault reader.new file.new writer.new most_reads) }
-    ensures bounded { reader.new.calls ≤ most_reads }
-    ensures prompt { IsPrompt reader.new }
-    ensures flushed { OnOk result (IsFlushed writer.new) }
-{
-    serve_on(alloc, session, file, notes, reader, writer)
-}
-
-/// Goes on from the lines that a file has as [`keep_engine`] does, if it returns: by workers that wait for each other.
-///
-/// # Errors
-///
-/// Those of [`serve_on`].
-pub fn keep_team<R: Threads + Wait + Sync, K: KeptFile, N: KeptNotices, D: Read, W: Write>(
-    alloc: Global,
-    session: &mut TeamSession<'_, R>,
-    file: &mut K,
-    notes: &N,
-    reader: &mut Counted<D>,
-    writer: &mut Counted<W>,
-) -> Result<RedoneLines, ServeFault>
-    requires sound { K.has_failed file.old → ⊥ }
-    requires reader { IsFresh reader.old }
-    ensures whole { IfOk result (EngineServesOn K.held K.synced D.remaining W.contents
         session.old file.old reader.old writer.old session.new file.new reader.new writer.new) }
-    ensures broken { IfErr result (EngineServesOnFirst K.held K.synced D.remaining W.contents
-        session.old file.old reader.old writer.old file.new reader.new writer.new) }
-    ensures caused { IfErr result (λ fault. IsServeCaused K.has_failed fault reader.new file.new writer.new most_reads) }
+    ensures noted { IfOk result (N.noted notes.now) }
+    ensures caused { IfErr result (λ fault. IsServeCaused K.has_failed K.withdrawn fault reader.new file.new writer.new most_reads) }
     ensures bounded { reader.new.calls ≤ most_reads }
     ensures prompt { IsPrompt reader.new }
     ensures flushed { OnOk result (IsFlushed writer.new) }

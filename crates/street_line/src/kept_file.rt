@@ -4,8 +4,8 @@ ghost use Rattle.std.specs.Prelude.{◌≡◌, ◌≤◌, List, ℕ, Option, OnO
 ghost use Rattle.street_base.specs.Prelude.{most_reads};
 ghost use Rattle.street_stream.specs.Streams.{IsFlushed, IsFresh, IsPrompt};
 ghost use Rattle.street_line.specs.Redo.{RedoBroke};
-ghost use Rattle.street_line.specs.Kept.{IsKeptCaused, KeptUpTo, KeptWhole};
-ghost use Rattle.street_line.specs.KeptFiles.{BeginBreaks, IsBeginCaused, IsServeCaused, Recovered, Redone, ServeBreaks, ServesOn, sound_len, sound_of};
+ghost use Rattle.street_line.specs.Kept.{KeptUpTo, KeptWhole};
+ghost use Rattle.street_line.specs.KeptFiles.{BeginBreaks, IsBeginCaused, IsRunCaused, IsServeCaused, Recovered, Redone, ServeBreaks, ServesOn, sound_len, sound_of};
 
 use crate::kept_runs::{KeptFault, run_kept};
 use crate::redo::{RedoFault, RedoneLines, redo_log};
@@ -25,6 +25,9 @@ pub trait KeptFile: WriteAheadLog {
     ghost use Rattle.std.specs.Io.{ReadsAtMost};
     ghost use Rattle.street_stream.specs.Logs.{Extends};
     ghost use Rattle.street_line.specs.KeptFiles.{first_of, left_from};
+
+    /// What is known of it behind [`withdraw`](KeptFile::withdraw), and by nothing else.
+    ghost withdrawn: { Self → Type 0 };
 
     /// Fills the first bytes of a buffer with those that it has from a place on, and answers how many: none only at its end.
     ///
@@ -52,13 +55,20 @@ pub trait KeptFile: WriteAheadLog {
     fn withdraw(&mut self)
         ensures held { (Self.held self.new ≡ Self.held self.old) ⊎ (Self.held self.new ≡ Self.synced self.old) }
         ensures synced { Self.synced self.new ≡ Self.synced self.old }
-        ensures failed { Self.has_failed self.old → Self.has_failed self.new };
+        ensures failed { Self.has_failed self.old → Self.has_failed self.new }
+        ensures withdrawn { withdrawn self.new };
 }
 
 /// Who is told what is done with a file before a session goes on from it.
 pub trait KeptNotices {
+    ghost use Rattle.street_line.specs.declared.redo.RedoneLines.{RedoneLines as RedoneSeen};
+
+    /// What is known once it was told of these lines, and by nothing else.
+    ghost noted: { Self → RedoneSeen → Type 0 };
+
     /// Tells that the lines of the file were done again.
-    fn note_redone(&self, redo: RedoneLines);
+    fn note_redone(&self, redo: RedoneLines)
+        ensures { noted self.now redo };
 }
 
 /// Why a session does not go on from a file.
@@ -174,6 +184,7 @@ pub fn begin_on<S: Service, K: KeptFile, N: KeptNotices>(
     requires ready { S.ready }
     requires sound { K.has_failed file.old → ⊥ }
     ensures recovered { IfOk result (λ redo. Recovered S.serves service.old (K.held file.old) service.new (K.held file.new) redo) }
+    ensures noted { IfOk result (N.noted notes.now) }
     ensures stays { OnOk result (K.synced file.new ≡ K.held file.new) }
     ensures broken { IfErr result (λ fault. BeginBreaks S.serves service.old (K.held file.old) (K.synced file.old) service.new (K.held file.new)
         (K.synced file.new) fault) }
@@ -214,8 +225,8 @@ pub fn run_on<S: Service, K: KeptFile, R: Read, W: Write>(
     ensures whole { OnOk result (KeptWhole S.serves service.old (R.remaining reader.old.stream) (K.held file.old) (W.contents writer.old.stream)
         service.new (R.remaining reader.new.stream) (K.held file.new) (K.synced file.new) (W.contents writer.new.stream)) }
     ensures exact { IfErr result (λ fault. KeptUpTo S.serves service.old (R.remaining reader.old.stream) (K.held file.old)
-        (W.contents writer.old.stream) fault (R.remaining reader.new.stream) (K.held file.new) (K.synced file.new) (W.contents writer.new.stream)) }
-    ensures caused { IfErr result (λ fault. IsKeptCaused K.has_failed fault reader.new file.new writer.new most_reads) }
+        (W.contents writer.old.stream) fault service.new (R.remaining reader.new.stream) (K.held file.new) (K.synced file.new) (W.contents writer.new.stream)) }
+    ensures caused { IfErr result (λ fault. IsRunCaused K.has_failed K.withdrawn fault reader.new file.new writer.new most_reads) }
     ensures prompt { IsPrompt reader.new }
     ensures bounded { reader.new.calls ≤ most_reads }
     ensures flushed { OnOk result (IsFlushed writer.new) }
@@ -227,7 +238,7 @@ pub fn run_on<S: Service, K: KeptFile, R: Read, W: Write>(
             file.withdraw();
             Err(KeptFault::Log)
         }
-        Err(fault) => Err(fault),
+        Err(KeptFault::Run(kind)) => Err(KeptFault::Run(kind)),
     }
 }
 
@@ -250,9 +261,10 @@ pub fn serve_on<S: Service, K: KeptFile, N: KeptNotices, R: Read, W: Write>(
     requires reader { IsFresh reader.old }
     ensures whole { IfOk result (λ redo. ServesOn S.serves service.old (K.held file.old) (R.remaining reader.old.stream) (W.contents writer.old.stream)
         redo service.new (R.remaining reader.new.stream) (K.held file.new) (K.synced file.new) (W.contents writer.new.stream)) }
+    ensures noted { IfOk result (N.noted notes.now) }
     ensures broken { IfErr result (λ fault. ServeBreaks S.serves service.old (K.held file.old) (K.synced file.old) (R.remaining reader.old.stream)
         (W.contents writer.old.stream) service.new (R.remaining reader.new.stream) (K.held file.new) (K.synced file.new) (W.contents writer.new.stream) fault) }
-    ensures caused { IfErr result (λ fault. IsServeCaused K.has_failed fault reader.new file.new writer.new most_reads) }
+    ensures caused { IfErr result (λ fault. IsServeCaused K.has_failed K.withdrawn fault reader.new file.new writer.new most_reads) }
     ensures prompt { IsPrompt reader.new }
     ensures bounded { reader.new.calls ≤ most_reads }
     ensures flushed { OnOk result (IsFlushed writer.new) }

@@ -1,6 +1,6 @@
 //! A text of lines: read, served (`kept.rt`), kept in the log, and answered, in this order. What is kept of the lines of a read stays
 //! in the log before any reply to them goes out. `kept_file.rt` calls it.
-ghost use Rattle.std.specs.Prelude.{◌≡◌, ◌<◌, ◌≤◌, ◌^◌, ◌++◌, List, ℕ, OnOk, IfErr, length};
+ghost use Rattle.std.specs.Prelude.{◌≡◌, ◌<◌, ◌≤◌, ◌^◌, ◌++◌, [], List, ℕ, OnOk, IfErr, length};
 ghost use Rattle.street_base.specs.Prelude.{most_reads};
 ghost use Rattle.street_stream.specs.Lines.{cut, if_any};
 ghost use Rattle.street_stream.specs.OpenTexts.{IsOpen};
@@ -42,7 +42,7 @@ fn fault_of(fault: KeepFault) -> KeptFault
 ///
 /// # Errors
 ///
-/// `Run` with `Starved` where memory ran out: nothing went out. `Log` where the log failed: no reply went out. `Run` with `Write`
+/// `Run` with `Starved` where memory ran out: the first lines were served, and nothing went out. `Log` where the log failed: no reply went out. `Run` with `Write`
 /// where the writer failed: the log holds what is kept.
 fn serve_and_keep_more<S: Service, L: WriteAheadLog, W: Write>(
     alloc: Global,
@@ -61,7 +61,7 @@ fn serve_and_keep_more<S: Service, L: WriteAheadLog, W: Write>(
         (W.contents writer.old.stream) (cut (line ++ bytes.now)).0 service.new (L.held log.new) (L.synced log.new) (W.contents writer.new.stream)) }
     ensures open { (line : List ℕ) → IsOpen longest_line text.old line → OnOk result (IsOpen longest_line text.new (cut (line ++ bytes.now)).1) }
     ensures stops { (line : List ℕ) → IsOpen longest_line text.old line → IfErr result (λ fault. PassStops S.serves service.old (L.held log.old)
-        (L.synced log.old) (W.contents writer.old.stream) (cut (line ++ bytes.now)).0 fault (L.held log.new) (L.synced log.new) (W.contents writer.new.stream)) }
+        (L.synced log.old) (W.contents writer.old.stream) (cut (line ++ bytes.now)).0 (if_any (cut (line ++ bytes.now)).1) fault service.new (L.held log.new) (L.synced log.new) (W.contents writer.new.stream)) }
     ensures flushed { OnOk result (IsFlushed writer.new) }
     ensures sound { OnOk result (L.has_failed log.new → L.has_failed log.old) }
     ensures caused { IfErr result (λ fault. IsPassCaused L.has_failed fault log.new writer.new) }
@@ -101,7 +101,7 @@ fn serve_and_keep_last<S: Service, L: WriteAheadLog, W: Write>(
     ensures passed { (line : List ℕ) → IsOpen longest_line text line → OnOk result (Passed S.serves service.old (L.held log.old)
         (W.contents writer.old.stream) (if_any line) service.new (L.held log.new) (L.synced log.new) (W.contents writer.new.stream)) }
     ensures stops { (line : List ℕ) → IsOpen longest_line text line → IfErr result (λ fault. PassStops S.serves service.old (L.held log.old)
-        (L.synced log.old) (W.contents writer.old.stream) (if_any line) fault (L.held log.new) (L.synced log.new) (W.contents writer.new.stream)) }
+        (L.synced log.old) (W.contents writer.old.stream) (if_any line) [] fault service.new (L.held log.new) (L.synced log.new) (W.contents writer.new.stream)) }
     ensures flushed { OnOk result (IsFlushed writer.new) }
     ensures sound { OnOk result (L.has_failed log.new → L.has_failed log.old) }
     ensures caused { IfErr result (λ fault. IsPassCaused L.has_failed fault log.new writer.new) }
@@ -143,7 +143,7 @@ pub fn run_kept<S: Service, R: Read, L: WriteAheadLog, W: Write>(
     ensures whole { OnOk result (KeptWhole S.serves service.old (R.remaining reader.old.stream) (L.held log.old) (W.contents writer.old.stream)
         service.new (R.remaining reader.new.stream) (L.held log.new) (L.synced log.new) (W.contents writer.new.stream)) }
     ensures exact { IfErr result (λ fault. KeptUpTo S.serves service.old (R.remaining reader.old.stream) (L.held log.old)
-        (W.contents writer.old.stream) fault (R.remaining reader.new.stream) (L.held log.new) (L.synced log.new) (W.contents writer.new.stream)) }
+        (W.contents writer.old.stream) fault service.new (R.remaining reader.new.stream) (L.held log.new) (L.synced log.new) (W.contents writer.new.stream)) }
     ensures broken { IfErr result (λ fault. KeptFirst S.serves service.old (R.remaining reader.old.stream) (L.held log.old)
         (W.contents writer.old.stream) (R.remaining reader.new.stream) (L.held log.new) (L.synced log.new) (W.contents writer.new.stream)) }
     ensures caused { IfErr result (λ fault. IsKeptCaused L.has_failed fault reader.new log.new writer.new most_reads) }

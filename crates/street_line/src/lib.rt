@@ -5,7 +5,7 @@
 //! machine serves is `MachineServes` of `specs/Engines`. What a desk serves is `DeskServes` of `specs/Sessions`; where it has
 //! one session alone, what is served is `AloneServes` there. Scripts are sessions on threads of their own ([`run_scripts`]).
 //!
-//! Without a desk, and with no end of calls, an engine serves ([`run_engine`], or [`run_team`] for several workers). A session that
+//! Without a desk, and with no end of calls, an engine serves ([`run_engine`]), whose steps a crew (`street_engine::Crew`) makes. A session that
 //! is kept ([`run_kept`]) writes each line that was done, and may change the traffic, into a log before its reply goes out, and
 //! goes on from such lines ([`redo_log`]): `specs/Kept`, `specs/Redo`. Both, over a file ([`serve_on`], by an engine [`keep_engine`]):
 //! `specs/KeptFiles`.
@@ -23,7 +23,6 @@ mod kept_laws;
 mod kept_runs;
 mod laws;
 mod recorded;
-mod recorded_teams;
 mod redo;
 mod restarts;
 mod runs;
@@ -32,10 +31,9 @@ mod server;
 mod service;
 mod session;
 mod sessions;
-mod teams;
 
 pub use engines::{EngineSession, run_engine};
-pub use kept_engines::{keep_engine, keep_team};
+pub use kept_engines::keep_engine;
 pub use kept_file::{BeginFault, KeptFile, KeptNotices, ServeFault, begin_on, run_on, serve_on};
 pub use kept_laws::{
     kept_lines_are_the_machines, kept_lines_lead_there, kept_sessions_are_a_function,
@@ -43,7 +41,6 @@ pub use kept_laws::{
 pub use kept_runs::{KeptFault, run_kept};
 pub use laws::lines_are_a_run;
 pub use recorded::{RecordedSession, run_recorded};
-pub use recorded_teams::{RecordedTeam, run_recorded_by_team};
 pub use redo::{RedoFault, RedoneLines, redo_log};
 pub use restarts::kept_files_go_on;
 pub use runs::{run_lines, run_lines_within};
@@ -53,4 +50,3 @@ pub use session::DeskSession;
 pub use sessions::run_alone;
 pub use street_stream::{Counted, FaultKind, RunFault, Tally};
 pub use street_text::{LineFault, command_reads_back, command_text, read_command, reply_text};
-pub use teams::{TeamSession, run_team};

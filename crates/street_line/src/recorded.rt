@@ -1,6 +1,5 @@
-//! Lines served by an engine of whose steps a record is written; workers, where it has several, are started anew for each part of a
-//! step. A reply goes out once the blocks of all steps up to it are written. `street_runs` calls it for `--record` with one worker;
-//! several stay, in `recorded_teams.rt`.
+//! Lines served by an engine of whose steps a record is written; a crew makes them. A reply goes out once the blocks of all steps up to
+//! it are written. `street_runs` calls it for `--record`.
 ghost use Rattle.std.specs.Prelude.{◌≡◌, ◌≤◌, IfOk, IfErr, OnOk, Some};
 ghost use Rattle.street_base.specs.Prelude.{most_reads};
 ghost use Rattle.street_stream.specs.Streams.{IsFlushed, IsFresh, IsPrompt};
@@ -12,31 +11,20 @@ use crate::service::{Served, Service};
 use std::alloc::Global;
 use std::io::{Read, Write};
 use std::marker::Model;
-use std::thread::Threads;
 use street_base::{Command, Reply};
-use street_engine::{Engine, Unwatched};
+use street_engine::{Crew, Engine, Unwatched};
 use street_record::RecordWriter;
 use street_stream::{Counted, RunFault, Tally};
 
-/// An engine as a service, with the runtime whose threads its workers run on, and what writes the record of its steps.
-pub struct RecordedSession<'a, R: Threads + Sync, F: Write + Drop> {
-    rt: &'a R,
+/// An engine as a service, with who makes its steps, and what writes the record of them.
+#[derive(Drop)]
+pub struct RecordedSession<C: Crew + Drop, F: Write + Drop> {
+    crew: C,
     engine: Engine<Unwatched>,
     writer: Option<RecordWriter<F>>,
 }
 
-impl<'a, R: Threads + Sync, F: Write + Drop> Drop for RecordedSession<'a, R, F> {
-    /// Drops the engine and the writer.
-    fn drop(self) {
-        let RecordedSession {
-            rt: _,
-            engine: _,
-            writer: _,
-        } = self;
-    }
-}
-
-impl<'a, R: Threads + Sync, F: Write + Drop> Model for RecordedSession<'a, R, F> {
+impl<C: Crew + Drop, F: Write + Drop> Model for RecordedSession<C, F> {
     ghost use Rattle.street_line.specs.Recorded.{RecordedView};
 
     ghost Value = { RecordedView F };
@@ -44,18 +32,14 @@ impl<'a, R: Threads + Sync, F: Write + Drop> Model for RecordedSession<'a, R, F>
     ghost view = { λ s. record { engine = s.engine; writer = s.writer } };
 }
 
-impl<'a, R: Threads + Sync, F: Write + Drop> RecordedSession<'a, R, F> {
+impl<C: Crew + Drop, F: Write + Drop> RecordedSession<C, F> {
     /// The engine as a service whose record goes to this writer. Takes no memory.
-    pub fn new(
-        rt: &'a R,
-        engine: Engine<Unwatched>,
-        writer: RecordWriter<F>,
-    ) -> RecordedSession<'a, R, F>
+    pub fn new(crew: C, engine: Engine<Unwatched>, writer: RecordWriter<F>) -> RecordedSession<C, F>
         ensures engine { result.engine ≡ engine }
         ensures writer { result.writer ≡ Some writer }
     {
         RecordedSession {
-            rt,
+            crew,
             engine,
             writer: Some(writer),
         }
@@ -63,10 +47,10 @@ impl<'a, R: Threads + Sync, F: Write + Drop> RecordedSession<'a, R, F> {
 
     /// Gives back the writer, which is there between any two calls. Takes no memory.
     pub fn into_writer(self) -> Option<RecordWriter<F>>
-        ensures { result ≡ self.entry.writer }
+        ensures { result ≡ self.writer }
     {
         let RecordedSession {
-            rt: _,
+            crew: _,
             engine: _,
             writer,
         } = self;
@@ -85,13 +69,12 @@ pub(crate) fn reply_behind<F: Write + Drop>(writer: &mut RecordWriter<F>, reply:
     Served::Answered(reply)
 }
 
-impl<'a, R: Threads + Sync, F: Write + Drop> Service for RecordedSession<'a, R, F> {
-    ghost use Rattle.std.specs.Thread.{IsSync};
+impl<C: Crew + Drop, F: Write + Drop> Service for RecordedSession<C, F> {
     ghost use Rattle.street_line.specs.Recorded.{RecordServes};
 
     ghost serves = { RecordServes F.contents };
 
-    ghost ready = { IsSync R.row };
+    ghost ready = { C.ready };
 
     /// Has the engine apply the command, and the record written of its steps. Once a write has failed it does nothing.
     fn serve(&mut self, command: Command) -> Served {
@@ -102,7 +85,7 @@ impl<'a, R: Threads + Sync, F: Write + Drop> Service for RecordedSession<'a, R, 
             self.writer = Some(writer);
             return Served::Unrecorded;
         }
-        let (reply, _outcome, mut writer) = self.engine.apply_recording(self.rt, writer, &command);
+        let (reply, _outcome, mut writer) = self.crew.apply(&mut self.engine, writer, &command);
         let served = reply_behind(&mut writer, reply);
         self.writer = Some(writer);
         served
@@ -116,12 +99,13 @@ impl<'a, R: Threads + Sync, F: Write + Drop> Service for RecordedSession<'a, R, 
 /// # Errors
 ///
 /// Those of `run_lines`; `Starved` also where a write of the record has failed, which the session then tells.
-pub fn run_recorded<R: Threads + Sync, F: Write + Drop, D: Read, W: Write>(
+pub fn run_recorded<C: Crew + Drop, F: Write + Drop, D: Read, W: Write>(
     alloc: Global,
-    session: &mut RecordedSession<'_, R, F>,
+    session: &mut RecordedSession<C, F>,
     reader: &mut Counted<D>,
     writer: &mut Counted<W>,
 ) -> Result<Tally, RunFault>
+    requires ready { C.ready }
     requires reader { IsFresh reader.old }
     requires writer { IsFresh writer.old }
     ensures served { IfOk result (RecordServesAll F.contents D.remaining W.contents

@@ -139,6 +139,10 @@ impl WriteAheadLog for Disk {
 }
 
 impl KeptFile for Disk {
+    ghost use Rattle.std.specs.Prelude.{⊤};
+
+    ghost withdrawn = { λ disk. ⊤ };
+
     fn read_at(&self, at: u64, buffer: &mut [u8]) -> io::Result<usize> {
         let rest = self.held.get(index_of(at)..).unwrap_or(&[]);
         let count = rest.len().min(buffer.len());
@@ -178,6 +182,10 @@ struct Told {
 }
 
 impl KeptNotices for Told {
+    ghost use Rattle.std.specs.Prelude.{⊤};
+
+    ghost noted = { λ told redo. ⊤ };
+
     fn note_redone(&self, redo: RedoneLines) {
         self.lines.set(redo.lines);
     }

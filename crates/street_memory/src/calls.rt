@@ -3,7 +3,7 @@
 use std::sync::Wait;
 use std::thread::Threads;
 use street_base::{Command, MOST_DETECTORS, MOST_STEPS, MOST_VEHICLES, Outcome, Reply};
-use street_engine::{Engine, Unwatched};
+use street_engine::{Crew, Engine, StartedCrew, StayingCrew, Unrecorded, Unwatched};
 
 /// Why a command has no answer.
 #[derive(Clone, Copy, Debug, PartialEq, Eq)]
@@ -30,10 +30,11 @@ pub(crate) fn apply<R: Threads + Wait + Sync>(
     way: Way,
     command: &Command,
 ) -> (Reply, Outcome) {
-    match way {
-        Way::Lent => engine.apply(rt, command),
-        Way::Team => engine.apply_by_team(rt, command),
-    }
+    let (reply, outcome, _sink) = match way {
+        Way::Lent => StartedCrew::new(rt).apply(engine, Unrecorded, command),
+        Way::Team => StayingCrew::new(rt).apply(engine, Unrecorded, command),
+    };
+    (reply, outcome)
 }
 
 /// How often a command was starved, and an advance stopped short.

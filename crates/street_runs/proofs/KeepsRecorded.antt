@@ -36,33 +36,30 @@ module _ {K D V W : Type 0} (held synced : K → Option (List ℕ)) (remaining :
 
   module _ (file : K) (reader : Counted D) (writer : Counted V) (kept : K) (read : Counted D) (written : Counted V) (before : EngineView) (nothing : StandsFor before None) where
     pub begin-broke : (after : EngineView) (fault : BeginFault) → BeginBreaks EngineServes before (held file) (synced file) after (held kept) (synced kept) fault
-        → read ≡ reader → written ≡ writer → KeepsRecordedFirst held synced remaining outputs file reader writer kept read written (Begin fault)
-    begin-broke after fault broke same quiet =
+        → read ≡ reader → written ≡ writer → (start : Option (List ℕ)) → KeepsRecordedFirst held synced remaining outputs contents start file reader writer kept None read written (Begin fault)
+    begin-broke after fault broke same quiet start =
         let machine = begins-machine before (held file) (synced file) after (held kept) (synced kept) fault broke None nothing in
-        (machine.0, machine.1, same, quiet)
+        (machine.0, machine.1, same, quiet, refl)
 
     module _ (mid : EngineView) (log : Option (List ℕ)) (redo : RedoneLines) (recovered : Recovered EngineServes before (held file) mid log redo) where
       pub open-broke : (fault : OpenFault) → held kept ≡ log → synced kept ≡ held kept → read ≡ reader → written ≡ writer
-          → KeepsRecordedFirst held synced remaining outputs file reader writer kept read written (Open fault)
-      open-broke fault is stays same quiet =
+          → (start : Option (List ℕ)) → KeepsRecordedFirst held synced remaining outputs contents start file reader writer kept None read written (Open fault)
+      open-broke fault is stays same quiet start =
           let machine = recovered-machine before (held file) mid log redo recovered None nothing in
-          (machine.0, redo, subst (λ (l : Option (List ℕ)). Recovered MachineServes None (held file) machine.0 l redo) (sym is) machine.1, stays, same, quiet)
+          (machine.0, redo, subst (λ (l : Option (List ℕ)). Recovered MachineServes None (held file) machine.0 l redo) (sym is) machine.1, stays, same, quiet, refl)
 
       module _ (start : Option (List ℕ)) (view : RecordedView W) (recorder : WriterView W) (engine : view.engine ≡ mid) (has : view.writer ≡ Some recorder) (fresh : IsFresh recorder)
           (is : contents recorder.writer.stream ≡ start) where
-        pub session-broke : (fault : KeptFault)
-            → KeptUpTo (RecordServes contents) view (remaining reader.stream) log (outputs writer.stream) fault (remaining read.stream) (held kept) (synced kept) (outputs written.stream)
-            → KeepsRecordedFirst held synced remaining outputs file reader writer kept read written (Session fault)
-        session-broke fault part =
+        pub session-broke : (after : RecordedView W) (out : Option (WriterView W)) → out ≡ after.writer → (fault : KeptFault)
+            → KeptUpTo (RecordServes contents) view (remaining reader.stream) log (outputs writer.stream) fault after (remaining read.stream) (held kept) (synced kept) (outputs written.stream)
+            → KeepsRecordedFirst held synced remaining outputs contents start file reader writer kept out read written (Session fault)
+        session-broke after out same fault part =
             let machine = recovered-machine before (held file) mid log redo recovered None nothing in
-            let stands = begins-at start view recorder machine.0 (subst (λ (v : EngineView). StandsFor v machine.0) (sym engine) machine.2) has fresh is in (
-              machine.0,
-              log,
-              redo,
-              machine.1,
-              kept-part-as (RecordServes contents) MachineRecords (StandsRecorded contents start) (record-served contents start) view (remaining reader.stream) log (outputs writer.stream) fault
-                  (remaining read.stream) (held kept) (synced kept) (outputs written.stream) part (recorded_from machine.0) stands,
-            )
+            let stands = begins-at start view recorder machine.0 (subst (λ (v : EngineView). StandsFor v machine.0) (sym engine) machine.2) has fresh is in
+            let run = kept-part-as (RecordServes contents) MachineRecords (StandsRecorded contents start) (record-served contents start) view (remaining reader.stream) log (outputs writer.stream) fault after
+            (remaining read.stream) (held kept) (synced kept) (outputs written.stream) part (recorded_from machine.0) stands in
+            let ends = run.2 in
+            (machine.0, log, redo, run.0, ends.writer, machine.1, run.1, same ∙ ends.written_by, ends.holds)
 
         pub keeps-recorded : (after : RecordedView W) (out : Option (WriterView W)) → out ≡ after.writer
             → KeptWhole (RecordServes contents) view (remaining reader.stream) log (outputs writer.stream) after (remaining read.stream) (held kept) (synced kept) (outputs written.stream)

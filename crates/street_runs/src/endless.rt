@@ -1,6 +1,7 @@
 //! Standard input without a desk: no journal, and no end of calls. `main` calls it for `--endless`.
 ghost use Rattle.std.specs.Prelude.{◌≤◌, None, IfOk, IfErr, OnOk};
 ghost use Rattle.street_base.specs.Prelude.{most_reads, most_workers};
+ghost use Rattle.street_engine.specs.Prelude.{StandsFor};
 ghost use Rattle.street_line.specs.Streams.{MachineServesAll, MachineServesFirst};
 ghost use Rattle.street_stream.specs.Faults.{IsCaused};
 ghost use Rattle.street_stream.specs.Streams.{IsFlushed, IsFresh, IsPrompt};
@@ -14,8 +15,8 @@ use std::io::{BufWriter, Read, Write};
 use std::sync::Wait;
 use std::thread::Threads;
 use street_base::Starved;
-use street_engine::{Engine, Unwatched};
-use street_line::{Counted, EngineSession, RunFault, Tally, TeamSession, run_engine, run_team};
+use street_engine::{Crew, Engine, StartedCrew, StayingCrew, Unwatched};
+use street_line::{Counted, EngineSession, RunFault, Tally, run_engine};
 
 /// Serves standard input by an engine alone, with up to so many workers, 1 to 64, and writes each reply as it comes. No call is
 /// kept, so there is no end of calls.
@@ -36,9 +37,23 @@ pub fn serve_endless<R: Threads + Wait + Sync + Input + Print + AllocGlobal>(
     let mut reader = Counted::new(rt.reader());
     let mut writer = Counted::new(output);
     let run = if workers == 1 {
-        serve_by_one(rt, alloc, &mut reader, &mut writer)
+        let engine = Engine::new(alloc, 1, Unwatched::new());
+        serve_by(
+            alloc,
+            StartedCrew::new(rt),
+            engine,
+            &mut reader,
+            &mut writer,
+        )
     } else {
-        serve_by_team(rt, alloc, workers, &mut reader, &mut writer)
+        let engine = staying_engine(rt, alloc, workers);
+        serve_by(
+            alloc,
+            StayingCrew::new(rt),
+            engine,
+            &mut reader,
+            &mut writer,
+        )
     };
     // After a fault it holds the replies to the lines that came in the last read.
     let _ = writer.flush();
@@ -48,18 +63,22 @@ pub fn serve_endless<R: Threads + Wait + Sync + Input + Print + AllocGlobal>(
     }
 }
 
-/// Serves lines to their end by one worker, who waits for nobody: what is written is what the machine says to them where nothing is
-/// loaded at first. After a fault the same holds of the lines that were served, and of the bytes that were written of their output.
+/// Serves lines to their end by an engine with nothing loaded, whose steps this crew makes: what is written is what the machine says to
+/// them. After a fault the same holds of the lines that were served, and of the bytes that were written of their output. By a crew whose
+/// workers wait for each other this holds if it returns.
 ///
 /// # Errors
 ///
 /// Those of [`run_engine`].
-pub fn serve_by_one<R: Threads + Sync, D: Read, W: Write>(
-    rt: &R,
+pub fn serve_by<C: Crew + Drop, D: Read, W: Write>(
     alloc: Global,
+    crew: C,
+    engine: Engine<Unwatched>,
     reader: &mut Counted<D>,
     writer: &mut Counted<W>,
 ) -> Result<Tally, RunFault>
+    requires ready { C.ready }
+    requires empty { StandsFor engine None }
     requires reader { IsFresh reader.old }
     requires writer { IsFresh writer.old }
     ensures served { IfOk result (MachineServesAll D.remaining W.contents None reader.old writer.old reader.new writer.new) }
@@ -68,31 +87,6 @@ pub fn serve_by_one<R: Threads + Sync, D: Read, W: Write>(
     ensures prompt { IsPrompt reader.new }
     ensures flushed { OnOk result (IsFlushed writer.new) }
 {
-    let mut session = EngineSession::new(rt, Engine::new(alloc, 1, Unwatched::new()));
+    let mut session = EngineSession::new(crew, engine);
     run_engine(alloc, &mut session, reader, writer)
-}
-
-/// As [`serve_by_one`] does, by so many workers, who wait for each other: so what it says holds if it returns.
-///
-/// # Errors
-///
-/// Those of [`run_team`].
-pub fn serve_by_team<R: Threads + Wait + Sync, D: Read, W: Write>(
-    rt: &R,
-    alloc: Global,
-    workers: u32,
-    reader: &mut Counted<D>,
-    writer: &mut Counted<W>,
-) -> Result<Tally, RunFault>
-    requires workers { (1 ≤ workers) × (workers ≤ most_workers) }
-    requires reader { IsFresh reader.old }
-    requires writer { IsFresh writer.old }
-    ensures served { IfOk result (MachineServesAll D.remaining W.contents None reader.old writer.old reader.new writer.new) }
-    ensures broken { IfErr result (MachineServesFirst D.remaining W.contents None reader.old writer.old reader.new writer.new) }
-    ensures caused { IfErr result (λ fault. IsCaused fault.kind reader.new writer.new most_reads) }
-    ensures prompt { IsPrompt reader.new }
-    ensures flushed { OnOk result (IsFlushed writer.new) }
-{
-    let mut session = TeamSession::new(rt, staying_engine(rt, alloc, workers));
-    run_team(alloc, &mut session, reader, writer)
 }

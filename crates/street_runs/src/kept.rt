@@ -1,6 +1,7 @@
 //! Standard input as a session that is kept in a file. The file is plain lines of commands. `main` calls it for `--keep`.
 ghost use Rattle.std.specs.Prelude.{◌≡◌, ◌≤◌, None, IfErr, IfOk, OnOk};
 ghost use Rattle.street_base.specs.Prelude.{most_reads, most_workers};
+ghost use Rattle.street_engine.specs.Prelude.{StandsFor};
 ghost use Rattle.street_line.specs.KeptFiles.{IsServeCaused};
 ghost use Rattle.street_line.specs.KeptStreams.{MachineServesOn, MachineServesOnFirst};
 ghost use Rattle.street_runs.specs.Faults.{IsKeptFault, IsRecordedFault, IsServeFault, redo_fault, begin_fault};
@@ -24,10 +25,10 @@ use std::io::{Read, Write};
 use std::rt::Files;
 use std::sync::Wait;
 use std::thread::Threads;
-use street_engine::{Engine, Unwatched};
+use street_engine::{Crew, Engine, StartedCrew, StayingCrew, Unwatched};
 use street_line::{
     BeginFault, Counted, EngineSession, KeptFault, KeptFile, KeptNotices, RedoFault, RedoneLines,
-    ServeFault, TeamSession, keep_engine, keep_team,
+    ServeFault, keep_engine,
 };
 
 /// Opens the file of this name, does its lines first, and then serves standard input as a session that is kept there, as [`keep_session`]
@@ -137,71 +138,66 @@ pub fn keep_session<R: Threads + Wait + Sync, K: KeptFile, N: KeptNotices, D: Re
     requires sound { K.has_failed file.old → ⊥ }
     requires reader { IsFresh reader.old }
     ensures whole { IfOk result (MachineServesOn K.held K.synced D.remaining W.contents None file.old reader.old writer.old file.new reader.new writer.new) }
+    ensures noted { IfOk result (N.noted notes.now) }
     ensures broken { IfErr result (MachineServesOnFirst K.held K.synced D.remaining W.contents None file.old reader.old writer.old file.new reader.new writer.new) }
-    ensures caused { IfErr result (λ fault. IsServeCaused K.has_failed fault reader.new file.new writer.new most_reads) }
+    ensures caused { IfErr result (λ fault. IsServeCaused K.has_failed K.withdrawn fault reader.new file.new writer.new most_reads) }
     ensures bounded { reader.new.calls ≤ most_reads }
     ensures prompt { IsPrompt reader.new }
     ensures flushed { OnOk result (IsFlushed writer.new) }
 {
     if workers == 1 {
-        keep_by_one(rt, alloc, file, notes, reader, writer)
+        let engine = Engine::new(alloc, 1, Unwatched::new());
+        keep_by(
+            alloc,
+            StartedCrew::new(rt),
+            engine,
+            file,
+            notes,
+            reader,
+            writer,
+        )
     } else {
-        keep_by_team(rt, alloc, workers, file, notes, reader, writer)
+        let engine = staying_engine(rt, alloc, workers);
+        keep_by(
+            alloc,
+            StayingCrew::new(rt),
+            engine,
+            file,
+            notes,
+            reader,
+            writer,
+        )
     }
 }
 
-/// Goes on so by one worker, who waits for nobody.
+/// Goes on so by an engine with nothing loaded, whose steps this crew makes.
 ///
 /// # Errors
 ///
 /// Those of [`keep_engine`].
-fn keep_by_one<R: Threads + Sync, K: KeptFile, N: KeptNotices, D: Read, W: Write>(
-    rt: &R,
+fn keep_by<C: Crew + Drop, K: KeptFile, N: KeptNotices, D: Read, W: Write>(
     alloc: Global,
+    crew: C,
+    engine: Engine<Unwatched>,
     file: &mut K,
     notes: &N,
     reader: &mut Counted<D>,
     writer: &mut Counted<W>,
 ) -> Result<RedoneLines, ServeFault>
+    requires ready { C.ready }
+    requires empty { StandsFor engine None }
     requires sound { K.has_failed file.old → ⊥ }
     requires reader { IsFresh reader.old }
     ensures whole { IfOk result (MachineServesOn K.held K.synced D.remaining W.contents None file.old reader.old writer.old file.new reader.new writer.new) }
+    ensures noted { IfOk result (N.noted notes.now) }
     ensures broken { IfErr result (MachineServesOnFirst K.held K.synced D.remaining W.contents None file.old reader.old writer.old file.new reader.new writer.new) }
-    ensures caused { IfErr result (λ fault. IsServeCaused K.has_failed fault reader.new file.new writer.new most_reads) }
+    ensures caused { IfErr result (λ fault. IsServeCaused K.has_failed K.withdrawn fault reader.new file.new writer.new most_reads) }
     ensures bounded { reader.new.calls ≤ most_reads }
     ensures prompt { IsPrompt reader.new }
     ensures flushed { OnOk result (IsFlushed writer.new) }
 {
-    let mut session = EngineSession::new(rt, Engine::new(alloc, 1, Unwatched::new()));
+    let mut session = EngineSession::new(crew, engine);
     keep_engine(alloc, &mut session, file, notes, reader, writer)
-}
-
-/// Goes on so by so many workers, who wait for each other: so what it says holds if it returns.
-///
-/// # Errors
-///
-/// Those of [`keep_team`].
-fn keep_by_team<R: Threads + Wait + Sync, K: KeptFile, N: KeptNotices, D: Read, W: Write>(
-    rt: &R,
-    alloc: Global,
-    workers: u32,
-    file: &mut K,
-    notes: &N,
-    reader: &mut Counted<D>,
-    writer: &mut Counted<W>,
-) -> Result<RedoneLines, ServeFault>
-    requires workers { (1 ≤ workers) × (workers ≤ most_workers) }
-    requires sound { K.has_failed file.old → ⊥ }
-    requires reader { IsFresh reader.old }
-    ensures whole { IfOk result (MachineServesOn K.held K.synced D.remaining W.contents None file.old reader.old writer.old file.new reader.new writer.new) }
-    ensures broken { IfErr result (MachineServesOnFirst K.held K.synced D.remaining W.contents None file.old reader.old writer.old file.new reader.new writer.new) }
-    ensures caused { IfErr result (λ fault. IsServeCaused K.has_failed fault reader.new file.new writer.new most_reads) }
-    ensures bounded { reader.new.calls ≤ most_reads }
-    ensures prompt { IsPrompt reader.new }
-    ensures flushed { OnOk result (IsFlushed writer.new) }
-{
-    let mut session = TeamSession::new(rt, staying_engine(rt, alloc, workers));
-    keep_team(alloc, &mut session, file, notes, reader, writer)
 }
 
 /// The fault of the program where a session that goes on from the file of this name ended so.

@@ -79,6 +79,10 @@ pub(crate) struct Teller<'a, R> {
 }
 
 impl<'a, R: Eprint> KeptNotices for Teller<'a, R> {
+    ghost use Rattle.std.specs.Prelude.{⊤};
+
+    ghost noted = { λ teller redo. ⊤ };
+
     /// Tells how many lines were done again, where there were some.
     fn note_redone(&self, redo: RedoneLines) {
         if redo.lines > 0 {

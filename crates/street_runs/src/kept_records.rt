@@ -1,7 +1,8 @@
 //! Standard input as a session that is kept in a file, and a record of its steps. The record is that of the steps behind the
 //! lines that are done again, which write nothing. `kept.rt` calls it for `--keep` with `--record`.
-ghost use Rattle.std.specs.Prelude.{◌≤◌, IfErr, IfOk, OnOk};
+ghost use Rattle.std.specs.Prelude.{◌≤◌, IfErr, IfOk, None, OnOk};
 ghost use Rattle.street_base.specs.Prelude.{most_reads, most_workers};
+ghost use Rattle.street_engine.specs.Prelude.{StandsFor};
 ghost use Rattle.street_runs.specs.KeptRecords.{IsRecordedCaused, KeepsRecorded, KeepsRecordedFirst};
 ghost use Rattle.street_stream.specs.Streams.{IsFlushed, IsFresh, IsPrompt};
 
@@ -10,10 +11,10 @@ use std::alloc::Global;
 use std::io::{Read, Write};
 use std::sync::Wait;
 use std::thread::Threads;
-use street_engine::{Engine, Unwatched};
+use street_engine::{Crew, Engine, StartedCrew, StayingCrew, Unwatched};
 use street_line::{
     BeginFault, Counted, EngineSession, KeptFault, KeptFile, KeptNotices, RecordedSession,
-    RecordedTeam, RedoneLines, TeamSession, begin_on, run_on,
+    RedoneLines, begin_on, run_on,
 };
 use street_record::RecordWriter;
 
@@ -28,11 +29,15 @@ pub enum OpenFault {
 
 /// Who opens the stream that a record is written to.
 pub trait RecordOpener<F: Write + Drop> {
-    ghost use Rattle.std.specs.Prelude.{◌≡◌, List, ℕ, Option, IfOk};
+    ghost use Rattle.std.specs.Prelude.{◌≡◌, List, ℕ, Option, IfErr, IfOk};
     ghost use Rattle.street_record.specs.Given.{IsFresh as HasNothing};
+    ghost use Rattle.street_runs.specs.declared.kept_records.OpenFault.{OpenFault as Fault};
 
     /// What the stream holds as it is opened.
     ghost start: { Self → Option (List ℕ) };
+
+    /// What is known where it could not be opened for this cause, and by nothing else.
+    ghost fails: { Self → Fault → Type 0 };
 
     /// Opens it.
     ///
@@ -40,7 +45,8 @@ pub trait RecordOpener<F: Write + Drop> {
     ///
     /// Why it could not.
     fn open(&self, alloc: Global) -> Result<RecordWriter<F>, OpenFault>
-        ensures { IfOk result (λ w. HasNothing w × (F.contents w.writer.stream ≡ start self.now)) };
+        ensures opened { IfOk result (λ w. HasNothing w × (F.contents w.writer.stream ≡ start self.now)) }
+        ensures failed { IfErr result (fails self.now) };
 }
 
 /// Why a session that goes on from a file, and of which a record is written, ended before its text did.
@@ -86,27 +92,32 @@ pub fn keep_recorded<
     requires reader { IsFresh reader.old }
     ensures whole { IfOk result.0 (KeepsRecorded K.held K.synced D.remaining W.contents F.contents (O.start opener.now)
         file.old reader.old writer.old file.new result.1 reader.new writer.new) }
-    ensures broken { IfErr result.0 (KeepsRecordedFirst K.held K.synced D.remaining W.contents
-        file.old reader.old writer.old file.new reader.new writer.new) }
-    ensures caused { IfErr result.0 (λ fault. IsRecordedCaused K.has_failed fault reader.new file.new writer.new most_reads) }
+    ensures noted { IfOk result.0 (N.noted notes.now) }
+    ensures broken { IfErr result.0 (KeepsRecordedFirst K.held K.synced D.remaining W.contents F.contents (O.start opener.now)
+        file.old reader.old writer.old file.new result.1 reader.new writer.new) }
+    ensures caused { IfErr result.0 (λ fault. IsRecordedCaused K.has_failed K.withdrawn (O.fails opener.now) fault reader.new file.new writer.new most_reads) }
     ensures bounded { reader.new.calls ≤ most_reads }
     ensures prompt { IsPrompt reader.new }
     ensures flushed { OnOk result.0 (IsFlushed writer.new) }
 {
     if workers == 1 {
-        keep_by_one(rt, alloc, file, notes, opener, reader, writer)
+        let engine = Engine::new(alloc, 1, Unwatched::new());
+        let crew = StartedCrew::new(rt);
+        keep_by(alloc, crew, engine, file, notes, opener, reader, writer)
     } else {
-        keep_by_team(rt, alloc, workers, file, notes, opener, reader, writer)
+        let engine = staying_engine(rt, alloc, workers);
+        let crew = StayingCrew::new(rt);
+        keep_by(alloc, crew, engine, file, notes, opener, reader, writer)
     }
 }
 
-/// Goes on so by one worker, who waits for nobody.
+/// Goes on so by an engine with nothing loaded, whose steps this crew makes.
 ///
 /// # Errors
 ///
 /// Those of [`keep_recorded`].
-fn keep_by_one<
-    R: Threads + Sync,
+fn keep_by<
+    C: Crew + Drop,
     K: KeptFile,
     N: KeptNotices,
     F: Write + Drop,
@@ -114,26 +125,30 @@ fn keep_by_one<
     D: Read,
     W: Write,
 >(
-    rt: &R,
     alloc: Global,
+    crew: C,
+    engine: Engine<Unwatched>,
     file: &mut K,
     notes: &N,
     opener: &O,
     reader: &mut Counted<D>,
     writer: &mut Counted<W>,
 ) -> (Result<RedoneLines, RecordedFault>, Option<RecordWriter<F>>)
+    requires ready { C.ready }
+    requires empty { StandsFor engine None }
     requires sound { K.has_failed file.old → ⊥ }
     requires reader { IsFresh reader.old }
     ensures whole { IfOk result.0 (KeepsRecorded K.held K.synced D.remaining W.contents F.contents (O.start opener.now)
         file.old reader.old writer.old file.new result.1 reader.new writer.new) }
-    ensures broken { IfErr result.0 (KeepsRecordedFirst K.held K.synced D.remaining W.contents
-        file.old reader.old writer.old file.new reader.new writer.new) }
-    ensures caused { IfErr result.0 (λ fault. IsRecordedCaused K.has_failed fault reader.new file.new writer.new most_reads) }
+    ensures noted { IfOk result.0 (N.noted notes.now) }
+    ensures broken { IfErr result.0 (KeepsRecordedFirst K.held K.synced D.remaining W.contents F.contents (O.start opener.now)
+        file.old reader.old writer.old file.new result.1 reader.new writer.new) }
+    ensures caused { IfErr result.0 (λ fault. IsRecordedCaused K.has_failed K.withdrawn (O.fails opener.now) fault reader.new file.new writer.new most_reads) }
     ensures bounded { reader.new.calls ≤ most_reads }
     ensures prompt { IsPrompt reader.new }
     ensures flushed { OnOk result.0 (IsFlushed writer.new) }
 {
-    let mut session = EngineSession::new(rt, Engine::new(alloc, 1, Unwatched::new()));
+    let mut session = EngineSession::new(crew, engine);
     let redo = match begin_on(alloc, &mut session, file, notes) {
         Ok(redo) => redo,
         Err(fault) => return (Err(RecordedFault::Begin(fault)), None),
@@ -142,58 +157,8 @@ fn keep_by_one<
         Ok(recorder) => recorder,
         Err(fault) => return (Err(RecordedFault::Open(fault)), None),
     };
-    let mut session = RecordedSession::new(rt, session.into_engine(), recorder);
-    match run_on(alloc, &mut session, file, reader, writer) {
-        Ok(()) => (Ok(redo), session.into_writer()),
-        Err(fault) => (Err(RecordedFault::Session(fault)), session.into_writer()),
-    }
-}
-
-/// Goes on so by so many workers, who wait for each other: so what it says holds if it returns.
-///
-/// # Errors
-///
-/// Those of [`keep_recorded`].
-fn keep_by_team<
-    R: Threads + Wait + Sync,
-    K: KeptFile,
-    N: KeptNotices,
-    F: Write + Drop,
-    O: RecordOpener<F>,
-    D: Read,
-    W: Write,
->(
-    rt: &R,
-    alloc: Global,
-    workers: u32,
-    file: &mut K,
-    notes: &N,
-    opener: &O,
-    reader: &mut Counted<D>,
-    writer: &mut Counted<W>,
-) -> (Result<RedoneLines, RecordedFault>, Option<RecordWriter<F>>)
-    requires workers { (1 ≤ workers) × (workers ≤ most_workers) }
-    requires sound { K.has_failed file.old → ⊥ }
-    requires reader { IsFresh reader.old }
-    ensures whole { IfOk result.0 (KeepsRecorded K.held K.synced D.remaining W.contents F.contents (O.start opener.now)
-        file.old reader.old writer.old file.new result.1 reader.new writer.new) }
-    ensures broken { IfErr result.0 (KeepsRecordedFirst K.held K.synced D.remaining W.contents
-        file.old reader.old writer.old file.new reader.new writer.new) }
-    ensures caused { IfErr result.0 (λ fault. IsRecordedCaused K.has_failed fault reader.new file.new writer.new most_reads) }
-    ensures bounded { reader.new.calls ≤ most_reads }
-    ensures prompt { IsPrompt reader.new }
-    ensures flushed { OnOk result.0 (IsFlushed writer.new) }
-{
-    let mut session = TeamSession::new(rt, staying_engine(rt, alloc, workers));
-    let redo = match begin_on(alloc, &mut session, file, notes) {
-        Ok(redo) => redo,
-        Err(fault) => return (Err(RecordedFault::Begin(fault)), None),
-    };
-    let recorder = match opener.open(alloc) {
-        Ok(recorder) => recorder,
-        Err(fault) => return (Err(RecordedFault::Open(fault)), None),
-    };
-    let mut session = RecordedTeam::new(rt, session.into_engine(), recorder);
+    let (crew, engine) = session.into_parts();
+    let mut session = RecordedSession::new(crew, engine, recorder);
     match run_on(alloc, &mut session, file, reader, writer) {
         Ok(()) => (Ok(redo), session.into_writer()),
         Err(fault) => (Err(RecordedFault::Session(fault)), session.into_writer()),

@@ -29,7 +29,7 @@ mod words;
 
 pub use clients::{serve_alone, serve_input, serve_named, serve_scripts};
 pub use command_line::options;
-pub use endless::{serve_by_one, serve_by_team, serve_endless};
+pub use endless::{serve_by, serve_endless};
 pub use fault::ProgramFault;
 pub use kept::{keep_session, serve_kept};
 pub use kept_records::{OpenFault, RecordOpener, RecordedFault, keep_recorded};
@@ -37,6 +37,6 @@ pub use laws::{input_is_taped, scripts_are_told};
 pub use one_file::check_files;
 pub use outputs::{STANDARD_ERROR, STANDARD_OUTPUT, end_with_tape};
 pub use reasons::reason;
-pub use recorded::{record_by_one, record_by_team, serve_recorded};
+pub use recorded::{record_by, serve_recorded};
 pub use tapes::{replay_and_count, replay_tape, upgrade_tape};
 pub use words::{ProgramOptions, WordsFault};

@@ -141,6 +141,10 @@ impl<'r, 'a, R> WriteAheadLog for LogFile<'r, 'a, R> {
 }
 
 impl<'r, 'a, R: Eprint + Files<File = File>> KeptFile for LogFile<'r, 'a, R> {
+    ghost use Rattle.std.specs.Prelude.{⊤};
+
+    ghost withdrawn = { λ log. ⊤ };
+
     /// Reads the bytes from a place on.
     fn read_at(&self, at: u64, buffer: &mut [u8]) -> io::Result<usize> {
         FileExt::read_at(&self.file, buffer, at)

@@ -1,6 +1,7 @@
 //! Standard input without a desk, and a record of its steps. `main` calls it for `--record`.
-ghost use Rattle.std.specs.Prelude.{◌≡◌, ◌≤◌, IfOk, IfErr, MatchOption, OnOk, false};
+ghost use Rattle.std.specs.Prelude.{◌≡◌, ◌≤◌, IfOk, IfErr, MatchOption, None, OnOk, false};
 ghost use Rattle.street_base.specs.Prelude.{most_reads, most_workers};
+ghost use Rattle.street_engine.specs.Prelude.{StandsFor};
 ghost use Rattle.street_line.specs.Recorded.{MachineRecordsAll, MachineRecordsFirst};
 ghost use Rattle.street_record.specs.Given.{IsFresh as HasNothing};
 ghost use Rattle.street_stream.specs.Faults.{IsCaused};
@@ -20,10 +21,8 @@ use std::rt::Files;
 use std::sync::Wait;
 use std::thread::Threads;
 use street_base::Starved;
-use street_engine::{Engine, Unwatched};
-use street_line::{
-    Counted, RecordedSession, RecordedTeam, RunFault, Tally, run_recorded, run_recorded_by_team,
-};
+use street_engine::{Crew, Engine, StartedCrew, StayingCrew, Unwatched};
+use street_line::{Counted, RecordedSession, RunFault, Tally, run_recorded};
 use street_record::RecordWriter;
 
 /// Serves standard input by an engine alone, with up to so many workers, 1 to 64, and writes the record of its steps to a new file of
@@ -48,9 +47,13 @@ pub fn serve_recorded<
     let mut reader = Counted::new(rt.reader());
     let mut writer = Counted::new(output);
     let (run, recorder) = if workers == 1 {
-        record_by_one(rt, alloc, recorder, &mut reader, &mut writer)
+        let engine = Engine::new(alloc, 1, Unwatched::new());
+        let crew = StartedCrew::new(rt);
+        record_by(alloc, crew, engine, recorder, &mut reader, &mut writer)
     } else {
-        record_by_team(rt, alloc, workers, recorder, &mut reader, &mut writer)
+        let engine = staying_engine(rt, alloc, workers);
+        let crew = StayingCrew::new(rt);
+        record_by(alloc, crew, engine, recorder, &mut reader, &mut writer)
     };
     // After a fault it holds the replies to the lines that came in the last read.
     let _ = writer.flush();
@@ -93,9 +96,11 @@ pub(crate) struct RecordFile<'r, 'a, R> {
 }
 
 impl<'r, 'a, R: Files<File = File>> RecordOpener<File> for RecordFile<'r, 'a, R> {
-    ghost use Rattle.std.specs.Prelude.{None};
+    ghost use Rattle.std.specs.Prelude.{None, ⊤};
 
     ghost start = { λ _. None };
+
+    ghost fails = { λ file fault. ⊤ };
 
     /// Makes the file anew, or opens the FIFO.
     fn open(&self, alloc: Global) -> Result<RecordWriter<File>, OpenFault> {
@@ -117,20 +122,24 @@ pub(crate) fn has_failed<F: Write + Drop>(recorder: &Option<RecordWriter<F>>) ->
     }
 }
 
-/// Serves lines to their end by one worker, who waits for nobody, and writes the record of the steps: what is written is what the
-/// machine says to the lines where nothing is loaded at first, and what it records. After a fault the same holds of the lines that
-/// were served, and of the bytes that were written of their output. The writer of the record is given back.
+/// Serves lines to their end by an engine with nothing loaded, whose steps this crew makes, and writes the record of the steps: what is written is what the
+/// machine says to the lines, and what it records. After a fault the same holds of the lines that
+/// were served, and of the bytes that were written of their output. By a crew whose workers wait for each other this holds if it
+/// returns. The writer of the record is given back.
 ///
 /// # Errors
 ///
 /// Those of [`run_recorded`].
-pub fn record_by_one<R: Threads + Sync, F: Write + Drop, D: Read, W: Write>(
-    rt: &R,
+pub fn record_by<C: Crew + Drop, F: Write + Drop, D: Read, W: Write>(
     alloc: Global,
+    crew: C,
+    engine: Engine<Unwatched>,
     recorder: RecordWriter<F>,
     reader: &mut Counted<D>,
     writer: &mut Counted<W>,
 ) -> (Result<Tally, RunFault>, Option<RecordWriter<F>>)
+    requires ready { C.ready }
+    requires empty { StandsFor engine None }
     requires recorder { HasNothing recorder }
     requires reader { IsFresh reader.old }
     requires writer { IsFresh writer.old }
@@ -142,39 +151,7 @@ pub fn record_by_one<R: Threads + Sync, F: Write + Drop, D: Read, W: Write>(
     ensures prompt { IsPrompt reader.new }
     ensures flushed { OnOk result.0 (IsFlushed writer.new) }
 {
-    let engine = Engine::new(alloc, 1, Unwatched::new());
-    let mut session = RecordedSession::new(rt, engine, recorder);
+    let mut session = RecordedSession::new(crew, engine, recorder);
     let run = run_recorded(alloc, &mut session, reader, writer);
-    (run, session.into_writer())
-}
-
-/// As [`record_by_one`] does, by so many workers, who wait for each other: so what it says holds if it returns.
-///
-/// # Errors
-///
-/// Those of [`run_recorded_by_team`].
-pub fn record_by_team<R: Threads + Wait + Sync, F: Write + Drop, D: Read, W: Write>(
-    rt: &R,
-    alloc: Global,
-    workers: u32,
-    recorder: RecordWriter<F>,
-    reader: &mut Counted<D>,
-    writer: &mut Counted<W>,
-) -> (Result<Tally, RunFault>, Option<RecordWriter<F>>)
-    requires workers { (1 ≤ workers) × (workers ≤ most_workers) }
-    requires recorder { HasNothing recorder }
-    requires reader { IsFresh reader.old }
-    requires writer { IsFresh writer.old }
-    ensures served { IfOk result.0 (MachineRecordsAll F.contents D.remaining W.contents (F.contents recorder.writer.stream)
-        reader.old writer.old result.1 reader.new writer.new) }
-    ensures broken { IfErr result.0 (MachineRecordsFirst F.contents D.remaining W.contents (F.contents recorder.writer.stream)
-        reader.old writer.old result.1 reader.new writer.new) }
-    ensures caused { IfErr result.0 (λ fault. IsCaused fault.kind reader.new writer.new most_reads) }
-    ensures prompt { IsPrompt reader.new }
-    ensures flushed { OnOk result.0 (IsFlushed writer.new) }
-{
-    let engine = staying_engine(rt, alloc, workers);
-    let mut session = RecordedTeam::new(rt, engine, recorder);
-    let run = run_recorded_by_team(alloc, &mut session, reader, writer);
     (run, session.into_writer())
 }

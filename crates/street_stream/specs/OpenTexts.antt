@@ -1,8 +1,8 @@
 -- A text whose lines are handled a part at a time.
-use Rattle.std.specs.Prelude.{◌≡◌, ℕ, ◌+◌, List, ◌∷◌, ◌++◌, length, Option}
+use Rattle.std.specs.Prelude.{◌≡◌, ℕ, ◌+◌, List, [], ◌∷◌, ◌++◌, length, Option}
 use Rattle.std.specs.Io.KnownBytes.{Appends}
 use Rattle.street_stream.specs.HandledLines.{Effect, Meaning, Handles, output, IsTally}
-use Rattle.street_stream.specs.Lines.{cut, lines_of, IsInsideLine, IsPart}
+use Rattle.street_stream.specs.Lines.{cut, if_any, lines_of, IsInsideLine, IsPart}
 use Rattle.street_stream.specs.declared.answer.StopCause.{StopCause}
 use Rattle.street_stream.specs.declared.answer.StopCause.TheVariants.{Run, Line}
 use Rattle.street_stream.specs.declared.counted.Counted.{Counted}
@@ -31,3 +31,10 @@ HaltsIn meaning old text new (Run kind) tally = (done : List (List ℕ)) × (res
     × (lines_of text ≡ done ++ rest) × Handles meaning.takes old done effects new × (tally.lines ≡ length done)
 HaltsIn {S} meaning old text new (Line stop) tally = (done : List (List ℕ)) × (line : List ℕ) × (rest : List (List ℕ)) × (effects : List Effect) × (mid : S)
     × ((cut text).0 ≡ done ++ line ∷ rest) × Handles meaning.takes old done effects mid × meaning.stops mid line stop new × (tally.lines ≡ length done + 1)
+
+-- that the last line of a text, which ended with no LF, ended it early: by a fault, after the line was handled and
+-- counted, or not; or the line itself ended it, which is counted
+abbrev pub HaltsAtEnd : {S Stop : Type 0} → Meaning S Stop → S → List ℕ → S → StopCause Stop → Tally → Type 0
+HaltsAtEnd meaning old line new (Run kind) tally = (done : List (List ℕ)) × (rest : List (List ℕ)) × (effects : List Effect)
+    × (if_any line ≡ done ++ rest) × Handles meaning.takes old done effects new × (tally.lines ≡ length done)
+HaltsAtEnd meaning old line new (Line stop) tally = (if_any line ≡ line ∷ []) × meaning.stops old line stop new × (tally.lines ≡ 1)

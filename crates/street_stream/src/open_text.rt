@@ -4,7 +4,7 @@
 ghost use Rattle.std.specs.Prelude.{◌≡◌, ◌+◌, ◌<◌, ◌≤◌, ◌^◌, ◌++◌, List, ℕ, [], IfOk, IfErr, IfSome, IsNone, length, take};
 ghost use Rattle.street_stream.specs.Faults.{IsCausedByLine};
 ghost use Rattle.street_stream.specs.Lines.{cut, if_any};
-ghost use Rattle.street_stream.specs.OpenTexts.{HaltsIn, HandlesTo, IsOpen};
+ghost use Rattle.street_stream.specs.OpenTexts.{HaltsAtEnd, HaltsIn, HandlesTo, IsOpen};
 
 use crate::answer::Halt;
 use crate::counted::Counted;
@@ -91,6 +91,8 @@ impl OpenText {
         requires ready { H.ready }
         ensures handled { (line : List ℕ) → IsOpen H.meaning.longest self line → IfOk result (HandlesTo H.meaning W.contents
             handler.old writer.old (if_any line) handler.new writer.new) }
+        ensures halted { (line : List ℕ) → IsOpen H.meaning.longest self line → IfErr result (λ halt.
+            HaltsAtEnd H.meaning handler.old line handler.new halt.cause halt.tally) }
         ensures caused { IfErr result (λ halt. IsCausedByLine halt.cause writer.new) }
     {
         self.progress.tally = NOTHING;

@@ -9,7 +9,7 @@ use std::sync::atomic::{AtomicU64, Ordering};
 use std::test::Fail;
 use std::thread::{Threads, yield_now};
 use street_base::{Command, Reply, Whereabouts};
-use street_engine::{Engine, Gate, Unwatched};
+use street_engine::{Engine, Gate, Unrecorded, Unwatched};
 use street_tile::Tile;
 
 /// How many nodes, links and vehicles a ring has.
@@ -106,7 +106,7 @@ fn driven<R: Threads + Wait + Sync, G: Gate + Sync + Drop>(
     }
     let mut all: u64 = 0;
     for steps in [1, 2, 17] {
-        let _answer = engine.apply_by_team(rt, &Command::Advance { steps });
+        let _answer = engine.apply_recording_by_team(rt, Unrecorded, &Command::Advance { steps });
         all = all.wrapping_mul(31).wrapping_add(places(rt, &mut engine));
     }
     all

@@ -9,7 +9,7 @@ use std::sync::atomic::Ordering;
 use std::test::Fail;
 use std::thread::Threads;
 use street_base::{Command, Outcome, Reply};
-use street_engine::Engine;
+use street_engine::{Engine, Unrecorded};
 
 /// A vehicle on each link, and three steps.
 fn commands(alloc: Global) -> Result<Vec<Command>, AllocError> {
@@ -39,7 +39,8 @@ fn is_served<R: Threads + Wait + Sync>(
     let mut last = (Reply::Starved, Outcome::Starved);
     for command in commands {
         last = if stay {
-            engine.apply_by_team(rt, command)
+            let (reply, outcome, _sink) = engine.apply_recording_by_team(rt, Unrecorded, command);
+            (reply, outcome)
         } else {
             engine.apply(rt, command)
         };

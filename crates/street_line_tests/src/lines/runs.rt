@@ -4,7 +4,7 @@ use crate::memory_streams::{FailingReader, FailingWriter};
 use std::alloc::Global;
 use std::thread::Threads;
 use street_base::Command;
-use street_engine::{Engine, Unwatched};
+use street_engine::{Engine, StartedCrew, Unwatched};
 use street_line::{
     Counted, EngineSession, FaultKind, RunFault, Served, Service, Tally, run_engine,
     run_lines_within,
@@ -13,7 +13,7 @@ use street_line::{
 /// An engine with a place for so many commands, and how many it was asked to serve.
 #[derive(Drop)]
 struct Watched<'a, R: Threads + Sync> {
-    engine: EngineSession<'a, R>,
+    engine: EngineSession<StartedCrew<'a, R>>,
     places: u128,
     commands: u128,
 }
@@ -69,7 +69,10 @@ pub(super) fn run<R: Threads + Sync>(
     let mut reader = Counted::new(reader);
     let mut writer = Counted::new(writer);
     let mut service = Watched {
-        engine: EngineSession::new(rt, Engine::new(alloc, 1, Unwatched::new())),
+        engine: EngineSession::new(
+            StartedCrew::new(rt),
+            Engine::new(alloc, 1, Unwatched::new()),
+        ),
         places,
         commands: 0,
     };
@@ -99,7 +102,10 @@ pub(super) fn run_whole<R: Threads + Sync>(
 ) -> (Option<FaultKind>, Tally, Vec<u8>) {
     let mut reader = Counted::new(text);
     let mut writer = Counted::new(writer);
-    let mut engine = EngineSession::new(rt, Engine::new(alloc, 1, Unwatched::new()));
+    let mut engine = EngineSession::new(
+        StartedCrew::new(rt),
+        Engine::new(alloc, 1, Unwatched::new()),
+    );
     let (kind, tally) = outcome(run_engine(alloc, &mut engine, &mut reader, &mut writer));
     (kind, tally, writer.into_inner().taken)
 }

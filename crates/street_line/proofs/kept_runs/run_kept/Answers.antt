@@ -58,11 +58,12 @@ returns-then-count-eq0-clause-exact g c =
       seen = before.0;
       got = [];
       last = if_any (cut before.0).1;
+      begun = [];
       mid = c.loop.service;
       owed = g.L.WriteAheadLog.held c.loop.log;
       told = g.W.Write.contents c.loop.writer.stream;
       read = rw (append-nil before.0) read;
-      is_last = inr (refl, c.in-Ok.ensures.bytes.1 c.if-count-eq0.true (omega arith), refl);
+      is_last = inr (refl, c.in-Ok.ensures.bytes.1 c.if-count-eq0.true (omega arith), refl, refl);
       passed = before.2;
       stops = rw before.3 at stops;
     })
@@ -76,24 +77,25 @@ returns-in-Err-serve_and_keep_more-clause-exact g c =
       seen = before.0;
       got = got;
       last = (cut ((cut before.0).1 ++ got)).0;
+      begun = if_any (cut ((cut before.0).1 ++ got)).1;
       mid = c.loop.service;
       owed = g.L.WriteAheadLog.held c.loop.log;
       told = g.W.Write.contents c.loop.writer.stream;
       read = Consumes-trans _ _ _ before.0 got before.1 c.in-Ok.ensures.bytes.0;
-      is_last = inl refl;
+      is_last = inl (refl, refl);
       passed = before.2;
       stops = rw before.3 at (c.in-Err-serve_and_keep_more.ensures.stops (cut before.0).1 before.4);
     }
 
 pub returns-in-Err-clause-broken : goal.returns-in-Err-clause-broken
-returns-in-Err-clause-broken g c = first_up_to g.S.Service.serves _ _ _ _ _ _ _ _ _ (returns-in-Err-clause-exact g c)
+returns-in-Err-clause-broken g c = first_up_to g.S.Service.serves _ _ _ _ _ _ _ _ _ _ (returns-in-Err-clause-exact g c)
 
 pub returns-clause-broken : goal.returns-clause-broken
-returns-clause-broken g c = first_up_to g.S.Service.serves _ _ _ _ _ _ _ _ _ (returns-clause-exact g c)
+returns-clause-broken g c = first_up_to g.S.Service.serves _ _ _ _ _ _ _ _ _ _ (returns-clause-exact g c)
 
 pub returns-in-Err-serve_and_keep_more-clause-broken : goal.returns-in-Err-serve_and_keep_more-clause-broken
-returns-in-Err-serve_and_keep_more-clause-broken g c = first_up_to g.S.Service.serves _ _ _ _ _ _ _ _ _ (returns-in-Err-serve_and_keep_more-clause-exact g c)
+returns-in-Err-serve_and_keep_more-clause-broken g c = first_up_to g.S.Service.serves _ _ _ _ _ _ _ _ _ _ (returns-in-Err-serve_and_keep_more-clause-exact g c)
 
 pub returns-then-count-eq0-clause-broken : goal.returns-then-count-eq0-clause-broken
 returns-then-count-eq0-clause-broken g c =
-    IfErr-weaker c.serve_and_keep_last.result _ _ (λ fault exact. first_up_to g.S.Service.serves _ _ _ _ fault _ _ _ _ exact) (returns-then-count-eq0-clause-exact g c)
+    IfErr-weaker c.serve_and_keep_last.result _ _ (λ fault exact. first_up_to g.S.Service.serves _ _ _ _ fault _ _ _ _ _ exact) (returns-then-count-eq0-clause-exact g c)

@@ -14,8 +14,8 @@ returns-then-has_failed g c =
 pub returns : goal.returns
 returns g c =
     let contents = g.F.Write.contents in
-    let done = c.apply_recording-reply in
-    subst (λ (old : RecordedView g.row.F.Denot). RecordServes contents old c.args.command c.reply_behind-served.result (record { engine = done.new.self; writer = Some c.reply_behind-served.new.writer })) c.self.view_is
-    (goes-on contents c.self.inside.engine c.self.inside.writer c.in-Some.writer done.result.2 c.args.command done.result.0 c.reply_behind-served.result done.new.self c.reply_behind-served.new.writer
+    let done = c.apply-reply in
+    subst (λ (old : RecordedView g.row.F.Denot). RecordServes contents old c.args.command c.reply_behind-served.result (record { engine = done.new.engine; writer = Some c.reply_behind-served.new.writer })) c.self.view_is
+    (goes-on contents c.self.inside.engine c.self.inside.writer c.in-Some.writer done.result.2 c.args.command done.result.0 c.reply_behind-served.result done.new.engine c.reply_behind-served.new.writer
     (sym c.take.ensures.value ∙ c.in-Some.is) (sym c.has_failed.ensures.failed ∙ c.if-has_failed.false) (done.result.1, done.ensures.serves)
     (λ m stands. recorded-adds contents c.self.inside.engine c.args.command done.result.0 c.in-Some.writer done.result.2 done.ensures.told m stands) c.reply_behind-served.ensures)
