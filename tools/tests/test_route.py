@@ -577,18 +577,17 @@ class Equilibria(Commands):
 
 
 class GivingWay(Commands):
-    """720 vehicles an hour go first. Before each a gap of 7.2 - 2 * 0.72 = 5.8 s has to be free,
-    and they come every 5 s."""
+    """720 vehicles an hour go first, one every 5 s. Before each 3.9 s have to be free, and it is in the way for 1 s."""
 
     def short(self, *words, out="out"):
         self.route("--gap", 0.2, "--iterations", 6, *words, out=out)
         return sum("s" in edges for name, edges in self.routes(out).items() if name.startswith("o"))
 
     def test_those_who_wait_too_long_take_another_way(self):
+        self.given(*joining(20, 360, 1800))
+        self.assertEqual(self.short(out="free"), 180)
         self.given(*joining(720, 360, 1800))
-        self.assertEqual(self.short("--rounds", 0, out="free"), 180)
-        few = self.short()
-        self.assertLess(few, 60)
+        self.assertLess(self.short(), 90)
         setting = json.loads((self.folder / "out/setting.json").read_text())
         self.assertEqual((setting["rounds"], setting["arrived"]), (2, 540))
         self.assertLess(setting["mean_trip_s"], 120)

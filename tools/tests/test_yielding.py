@@ -112,7 +112,7 @@ class WithoutALight(unittest.TestCase):
 
     def test_who_stands_at_its_line_is_in_the_way_of_those_who_give_way_to_it(self):
         """Though it waits itself."""
-        scene = Scene([[0, 3], [1, 4], [2, 5]], open_mapping("m=M", ((0, 1, False), (1, 2, False))))
+        scene = Scene([[0, 3], [1, 4], [2, 5]], open_mapping("mmM", ((0, 1, False), (1, 2, False))))
         lanes = (0, {0: (1, 0)}), (1, {1: (1, 0)}), (2, {2: (3, 2)})
         self.assertFalse([clock for clock in range(5, 130) if LEFT in scene.second(clock, *lanes)])
         self.assertIn(LEFT, scene.second(131, (0, {0: (1, 0)}), (2, {2: (3, 2)})))
@@ -133,14 +133,6 @@ class WithoutALight(unittest.TestCase):
         scene = Scene([[0, 3], [1, 4]], open_mapping("wwM", ((0, 1, False), (1, 0, False))))
         scene.second(4, (0, {0: (2, 2)}), (1, {1: (1, 0)}))
         self.assertEqual(scene.second(5, (0, {0: (1, 0)}), (1, {1: (1, 0)})) & {LEFT, STRAIGHT}, {STRAIGHT})
-
-    def test_a_ring_of_those_who_wait_for_each_other_right_before_left_opens(self):
-        yields = ((0, 1, False), (1, 2, False), (2, 0, False))
-        scene = Scene([[0, 3], [1, 4], [2, 5]], open_mapping("===", yields))
-        lanes = (0, {0: (1, 0)}), (1, {1: (1, 0)}), (2, {2: (1, 0)})
-        shown = [scene.second(clock, *lanes) & {LEFT, STRAIGHT, RIGHT} for clock in range(5, 30)]
-        self.assertTrue(all(len(turns) < 2 for turns in shown))
-        self.assertEqual(set().union(*shown), {LEFT, STRAIGHT, RIGHT})
 
 
 class Gaps(unittest.TestCase):

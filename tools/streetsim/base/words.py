@@ -218,8 +218,8 @@ def add_rounds(
         type=integer_within(0, MOST_ROUNDS),
         default=default,
         metavar="N",
-        help=f"with a map of an earlier version: runs made before the final run, by which those who give way without a "
-        f"light find gaps ({usual}; 0: nobody gives way)",
+        help=f"runs made before the final run, by which those who give way right before left find gaps ({usual}; "
+        "0: nobody gives way there); with a map of an earlier version for all without a light",
     )
 
 

@@ -20,7 +20,7 @@ from streetsim.base.arrays import Array
 from streetsim.control.yielding_fullness import LitFullness
 from streetsim.control.yielding_plans import AS_PLANNED, CLOSED, OPENED, PlansInForce, ShownPhase
 from streetsim.control.yielding_sight import LinksAhead, LanesSeen
-from streetsim.control.yielding_ways import ALL_WAY, EQUAL, NO_TURN, Lanes, MeetingTurn, Ways
+from streetsim.control.yielding_ways import ALL_WAY, NO_TURN, Lanes, MeetingTurn, Ways
 from streetsim.kernel.loop import NEVER, Controller, Kernel, SentLine
 from streetsim.kernel.seconds import READY, Block
 from streetsim.model.mapping import Map
@@ -39,9 +39,6 @@ LONG_AGO = -99  # a clock
 # Without a light: seconds of standing for which one needs a second less before one who comes; seconds more between two,
 # the first of which stood.
 PATIENCE, AFTER_OPEN_STAND = 10.0, 0.4
-# Share of the seconds in which one that waits in a ring lets others go (SUMO's): who turns off, who goes straight on.
-LETS_GO = 0.75, 0.25
-ENTERED = 2  # seconds in which one is in the way of those before whom it should have waited
 OPEN_CYCLE = 60  # seconds of the plan of a node without a light, which has all green
 
 
@@ -119,7 +116,6 @@ class YieldingTurns(Controller):
         self.looked_at: set[int] = set()  # lanes in the last second
         self.blocked: dict[int, Blocked] = {}  # by lane
         self.fronts: dict[int, Front] = {}  # by lane, in this second
-        self.waits_for: dict[int, int] = {}  # by lane the one of who stands, for whom somebody waited there last
 
     def open_plans(self) -> list[Command]:
         """Plans of the nodes without a light: all is green."""
@@ -288,7 +284,6 @@ class YieldingTurns(Controller):
         """Whether one may go. going: the turns by which some are let go in this second."""
         if not self.may_leave(clock, front, lanes_seen):
             return False
-        self.waits_for.pop(front.slot, None)
         if front.way.sign == ALL_WAY:
             return not any(foe in going or self.came_before(clock, foe, front) for foe in front.way.foes)
         gap_needed = self.gap_needed(clock, front)
@@ -296,7 +291,7 @@ class YieldingTurns(Controller):
             seconds, needed = lanes_seen.seconds.get(foe, NEVER), gap_needed + gap.seconds_more
             if not gap.is_met or seconds >= needed:
                 continue
-            if front.way.sign and self.goes_before(clock, front, foe, needed - seconds, lanes_seen, going):
+            if front.way.sign and self.goes_before(clock, front, foe, needed - seconds, lanes_seen):
                 continue
             if not front.way.sign and self.waits(foe, lanes_seen, going):
                 continue
@@ -313,9 +308,7 @@ class YieldingTurns(Controller):
         if self.free_at.get(front.slot, LONG_AGO) > clock + HALF or (way.always_stops and not front.stands):
             return False
         since_passed = lanes_seen.since_passed
-        if any(since_passed.get(foe, gap.passing) < gap.passing for foe, gap in way.foes.items()):
-            return False
-        return not any(since_passed.get(other, ENTERED) < ENTERED for other in way.entering)
+        return not any(since_passed.get(foe, gap.passing) < gap.passing for foe, gap in way.foes.items())
 
     def gap_needed(self, clock: int, front: Front) -> float:
         """Seconds that have to be free at a light before one goes."""
@@ -331,33 +324,11 @@ class YieldingTurns(Controller):
         may_go = self.free_at.get(other.slot, LONG_AGO) <= clock + HALF
         return may_go and (other.since, other.slot) < (front.since, front.slot)
 
-    def goes_before(
-        self, clock: int, front: Front, foe: int, lacking: float, lanes_seen: LanesSeen, going: set[int],
-    ) -> bool:  # fmt: skip
+    def goes_before(self, clock: int, front: Front, foe: int, lacking: float, lanes_seen: LanesSeen) -> bool:
         """Whether one goes without a light though seconds are lacking before another one comes: it stood for so long
-        that those brake for it who come, or all wait for each other."""
-        slot, stood = self.ways.all[foe].slot, clock - front.since if front.stands else 0
-        if stood >= PATIENCE * lacking and foe not in lanes_seen.comes_on:
-            return True
-        self.waits_for[front.slot] = slot
-        if not front.way.is_equal or any(turn in front.way.foes or turn in front.way.entering for turn in going):
-            return False
-        lets_go = self.lets_others_go(clock, self.fronts.get(slot)) and not self.lets_others_go(clock, front)
-        return lets_go and front.stands and self.is_in_ring(front)
-
-    def lets_others_go(self, clock: int, front: Front | None) -> bool:
-        """Whether one that waits right before left in a ring lets the one go in this second that waits for it."""
-        share = LETS_GO[front.way.sign == EQUAL[0]] if front else 0.0
-        return front is not None and (front.car * 7919 + clock * 104729) % 1009 < share * 1009
-
-    def is_in_ring(self, front: Front) -> bool:
-        """Whether one waits for another one and so on until somebody waits for it."""
-        slot, left = self.waits_for.get(front.slot), len(self.waits_for)
-        while slot is not None and slot != front.slot and left:
-            if slot not in self.fronts:
-                return False
-            slot, left = self.waits_for.get(slot), left - 1
-        return slot == front.slot
+        that those brake for it who come; who stands at its own line stays in the way."""
+        stood = clock - front.since if front.stands else 0
+        return stood >= PATIENCE * lacking and foe not in lanes_seen.comes_on
 
     def waits(self, foe: int, seen: LanesSeen, going: set[int]) -> bool:
         """Whether one that goes first waits itself."""

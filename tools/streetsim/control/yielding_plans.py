@@ -212,7 +212,7 @@ class PlansInForce:
         who may have come, too."""
         phase = self.phase(turn)
         if (lanes := phase.seen_lanes.get(turn)) is None:
-            foes = self.ways.all[turn].foes.keys() | self.ways.all[turn].entering
+            foes = self.ways.all[turn].foes.keys()
             coming = foes & phase.coming if turn in phase.greens else foes
             lanes = frozenset(slot for foe in coming for slot in self.lanes.seen_by[foe])
             phase.seen_lanes[turn] = lanes

@@ -16,14 +16,13 @@ MOST_RANKS = 5  # in which junctions decide; further ones count as the last
 SLOWEST = 3.0  # metres a second, below which a turn's speed counts as this
 NO_TURN = -1  # that is looked at
 NO_CELL = CELLS + 1  # beyond all
-# SUMO's states of connections without a light: right before left, a stop sign, all stop and go in turn.
-EQUAL, STOP, ALL_WAY = "=e", "s", "w"
+STOP, ALL_WAY = "s", "w"  # SUMO's states of connections without a light: a stop sign, all stop and go in turn
 FAST = 10.0  # metres a second inside the junction, from which on one joins a fast stream
 # Seconds between two that follow each other: who looks out, who joins fast ones, who stops at a sign, where all stop.
 LOOKING, JOINING, AT_SIGN, IN_TURN = 2.55, 3.0, 6.15, 5.85
 # Seconds more than at a light that have to be free: of one that is crossed, of slow and of fast ones that are joined,
-# right before left, and of fast and slow ones that are joined from a stop sign, which are seen from as far.
-OPEN_MORE, ENTERING_MORE, FAST_MORE, EQUAL_MORE, STOP_FAST_MORE, STOP_MORE = 2.1, 0.4, 3.3, 2.2, 16.5, 9.5
+# and of fast and slow ones that are joined from a stop sign, which are seen from as far.
+OPEN_MORE, ENTERING_MORE, FAST_MORE, STOP_FAST_MORE, STOP_MORE = 2.1, 0.4, 3.3, 16.5, 9.5
 WIDER = 0.3  # seconds more for each further lane of a street that is crossed
 FACING_MORE, FACING_SIGNS = 4.5, "sm"  # the same of one that is crossed from a stop sign, and stops or gives way too
 STOP_HORIZON = 20  # seconds before the stop line, from which on one is seen that is joined from a stop sign
@@ -47,7 +46,6 @@ class MeetingTurn:
     headway: float  # seconds between two that go by it
     sign: str = ""  # as NodeWays has it; empty at a light
     foes: dict[int, FoeGap] = field(default_factory=dict)  # turns that go first
-    entering: set[int] = field(default_factory=set)  # turns that give way to it, where each gives way to some
     may_stop: bool = False  # it may go in a red after a stop
     rank: int = 0  # 0: all whom it gives way to give way to nobody
 
@@ -55,11 +53,6 @@ class MeetingTurn:
     def always_stops(self) -> bool:
         """Whether all that go by it stop first."""
         return self.sign != "" and self.sign in ALWAYS_STOP
-
-    @property
-    def is_equal(self) -> bool:
-        """Whether those go first who come from the right."""
-        return self.sign != "" and self.sign in EQUAL
 
     @property
     def gives(self) -> bool:
@@ -115,8 +108,6 @@ class Ways:
         own_way, foe_way = self.all[turn], self.all[foe]
         if not own_way.sign:
             return FoeGap(not beside)
-        if own_way.is_equal:
-            foe_way.entering.add(turn)
         joins = self.joins(mapping, own_way, foe)
         fast = joins and self.speed[foe] > FAST
         passing = 2 if fast or own_way.sign == ALL_WAY else 1
@@ -130,13 +121,12 @@ class Ways:
         if own_way.sign == STOP and joins:
             return STOP_FAST_MORE if fast else STOP_MORE
         if joins:
-            joining = FAST_MORE if fast else ENTERING_MORE
-            return max(joining, EQUAL_MORE) if own_way.is_equal else joining
+            return FAST_MORE if fast else ENTERING_MORE
         links = mapping.links_of[mapping.links[foe_way.name[0]].edge]
         wider = WIDER * (sum(len(mapping.links[link].lanes) for link in links) - 1)
         if own_way.sign == STOP and foe_way.sign in FACING_SIGNS:
             return FACING_MORE + wider
-        return (EQUAL_MORE if own_way.is_equal else OPEN_MORE) + wider
+        return OPEN_MORE + wider
 
     def joins(self, mapping: Map, own: MeetingTurn, foe: int) -> bool:
         """Whether two turns lead to one edge."""

@@ -86,7 +86,7 @@ class NodeWays:
     # A way, one that goes before it, and whether that leads to another lane of the same street.
     yields: tuple[tuple[int, int, bool], ...]
     stops: tuple[int, ...] = ()  # the ways that may go in a red after a stop
-    signs: str = ""  # by way SUMO's state of its connections, e where one turns off right before left; empty at a light
+    signs: str = ""  # by way SUMO's state of its connections; empty at a light
 
 
 def ways_at(lit_ways: Iterable[NodeWays], node: int) -> NodeWays | None:

@@ -1,4 +1,5 @@
-"""Who gives way to whom where there is no light, and for how long: for the map, by which runs find gaps.
+"""Who gives way to whom right before left, and for how long: for the map, by which rounds find gaps; and the gaps of
+all junctions without a light, by which ways through towns are reckoned.
 
 The seconds were measured in SUMO 1.15 at lone junctions under an endless queue (bench/run junctions): how many
 leave in each gap between two that they give way to, then chosen so that as many leave here against 200 to 1,000
@@ -41,7 +42,7 @@ PACES = {STOPS: Pace(2, 4.15), ALL_STOP: Pace(2, 4.15, 0.7)}
 
 
 def conflicts_of(net: SumoNet, network: Network, flows: Flows) -> list[GivingWay]:
-    """Who gives way at junctions without any light, once the network has the turns that plans add (enters): one
+    """Who gives way at junctions right before left, once the network has the turns that plans add (enters): one
     GivingWay for each movement that routes use (flows: vehicles an hour by (edge, next edge)) and that gives way to
     another used one, or always has to stop. Junctions with a connection whose request is not known are left out."""
     turns_at, added = turns_by_movement(network), turns_by_movement(network, True)
@@ -49,11 +50,17 @@ def conflicts_of(net: SumoNet, network: Network, flows: Flows) -> list[GivingWay
     return [
         GivingWay(number[junction], tuple(sorted(turns_at[pair])), tuple(found.values()), paces.get(pair))
         for junction, connections in connections_of(net).items()
-        if junction in number and not any(one.light or one.request is None for one in connections)
+        if junction in number and is_equal(connections)
+        if not any(one.light or one.request is None for one in connections)
         for paces in [{(one.source, one.target): PACES[one.state] for one in connections if one.state in PACES}]
         for pair, found in foes_by_movement(connections, net.yields.get(junction, {}), network, added, flows).items()
         if found or pair in paces
     ]
+
+
+def is_equal(connections: Iterable[NetConnection]) -> bool:
+    """Whether at a junction, by its connections, those go first who come from the right."""
+    return any(one.state == EQUALS for one in connections)
 
 
 def turns_by_movement(network: Network, added: bool = False) -> dict[EdgePair, list[TurnKey]]:

@@ -9,6 +9,7 @@ from streetsim.base.report import Report
 from streetsim.model.mapping import Map, MapLink, MapTurn
 from streetsim.model.runs import Command
 from streetsim.model.waiting import TurnKey
+from streetsim.sumo.conflicts import conflicts_of
 from streetsim.sumo.constraints import warn_of_broken
 from streetsim.sumo.crossing import Flows, hourly_flows
 from streetsim.sumo.demand import DemandVehicle, enters, kinds_of
@@ -79,6 +80,7 @@ def converted(
         warn_of_clashes(net, report)
         warn_of_broken(net, report)
     network.lit_ways, network.open_ways = lit_ways_of(net, network), open_ways_of(net, network)
+    network.yields = conflicts_of(net, network, flows)
     ends = {light: day[1][0] - 1 for light, day in days.items() if len(day) > 1}
     signals = signal_commands(net, network, report, ends) + day_lines(net, network, days, report)
     lights = [(light, command["node"]) for light, command in signals if "at" not in command]
@@ -103,7 +105,7 @@ def nodes_giving_way(network: Network, flows: Flows) -> set[int]:
     def is_used(way: Sequence[TurnKey]) -> bool:
         return any((network.links[link].edge, network.links[to].edge) in flows for link, _, to in way)
 
-    return {
+    return {giver.node for giver in network.yields} | {
         one.node for one in network.open_ways
         if any(is_used(one.ways[own]) and is_used(one.ways[foe]) for own, foe, _ in one.yields)
     }
@@ -141,6 +143,7 @@ def map_of(network: Network, lights: list[tuple[str, int]], names: list[str], re
         ],
         signals=lights,
         cars=names,
+        yields=network.yields,
         options={name: value for name, value in asdict(network.options).items() if name != "part" or value},
         warnings=list(report.lines()),
         kinds=network.kinds,

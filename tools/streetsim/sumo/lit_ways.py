@@ -4,12 +4,12 @@ from collections import defaultdict
 from collections.abc import Collection, Iterable, Iterator, Mapping, Sequence
 
 from streetsim.model.waiting import ALWAYS_STOP, NodeWays, TurnKey
+from streetsim.sumo.conflicts import is_equal
 from streetsim.sumo.crossing import ANY_GREEN, GREEN, OPEN, STOPS_FIRST
 from streetsim.sumo.net import MAJOR, ZIPPER, NetConnection, SumoNet, connections_of
 from streetsim.sumo.network import Network
 from streetsim.sumo.signals import light_of
 
-EQUALS, EQUALS_TURNING, STRAIGHT = "=", "e", "s"  # SUMO's state right before left, who turns off there; a direction
 WayKey = tuple[str, str, int | None]  # an edge, the next one, and the index in the light's state
 Yields = Mapping[int, Collection[int]]  # by request those that it gives way to
 
@@ -28,13 +28,15 @@ def lit_ways_of(net: SumoNet, network: Network) -> list[NodeWays]:
 
 
 def open_ways_of(net: SumoNet, network: Network) -> list[NodeWays]:
-    """Who gives way at each junction without any light, whatever the demand. Junctions with a connection whose request
-    is not known are left out, and zippers, where both go by turns (merges)."""
+    """Who gives way at each junction without any light, whatever the demand. Junctions right before left are left out,
+    which have rounds (conflicts), those with a connection whose request is not known, and zippers, where both go by
+    turns (merges)."""
     turns, number = turns_by_way(network), {name: at for at, name in enumerate(network.nodes)}
     found = (
         open_ways_of_junction(number[junction], connections, net.yields.get(junction, {}), turns)
         for junction, connections in connections_of(net).items()
-        if junction in number and not any(one.light or one.request is None for one in connections)
+        if junction in number and not is_equal(connections)
+        and not any(one.light or one.request is None for one in connections)
     )
     return [ways for ways in found if ways.yields or any(sign in ALWAYS_STOP for sign in ways.signs)]
 
@@ -50,8 +52,7 @@ def open_ways_of_junction(
         foes = (by_request[at] for at in sorted(yields.get(request or 0, ())) if at in by_request)
         met = [one for one in foes if one.source != connection.source and not connection.state == one.state == ZIPPER]
         if met or connection.state in ALWAYS_STOP:
-            turns_off = connection.state == EQUALS and connection.direction != STRAIGHT
-            signs[way_key(connection)] = EQUALS_TURNING if turns_off else connection.state
+            signs[way_key(connection)] = connection.state
         pairs.update(dict.fromkeys((way_key(connection), way_key(foe)) for foe in met))
     named = dict.fromkeys([key for pair in pairs for key in pair] + [*signs])
     known = [key for key in named if turns.get(key)]

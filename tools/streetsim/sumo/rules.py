@@ -134,7 +134,8 @@ def warn_of_lanes(net: SumoNet, network: Network, report: Report) -> None:
     """Reports connections that give way, turns and parallel links that SUMO does not have, lanes that are joint, and
     lanes of a link between which another one lies."""
     if minor := sum(connection.state in "m=sw" and not connection.light for connection in net.connections):
-        told = f"{minor} connections have to give way in SUMO; here they do by who comes, second by second"
+        how = "second by second, or right before left by rounds"
+        told = f"{minor} connections have to give way in SUMO; here they do {how}"
         report.warn(told, light=True)
     if network.joined:
         told = f"{len(network.joined)} turns between parallel links added for routes that change between them"

@@ -54,7 +54,7 @@ OPTION_HELP = (
     ("-l, --log FILE", "the file for warnings"),
     ("--ignore-route-errors", "leaves vehicles out whose route cannot be driven"),
     ("--rescue SECONDS", "takes out a vehicle that stood this long, in place of --time-to-teleport"),
-    ("--rounds NUMBER", "accepted, and does nothing: who gives way does so second by second"),
+    ("--rounds NUMBER", "runs made before the final run, by which vehicles give way right before left (2)"),
     *((f"--{name} ..", "as in streetsim-import") for name in sorted(IMPORTED - {"seed", "begin"})),
     *((f"--{name} ..", "as in streetsim-run") for name in RUN_OPTIONS),
     ("-C, --save-configuration FILE", "writes the words as a configuration, and makes no run"),
