@@ -32,25 +32,25 @@ class Outcome:
     seconds: dict[str, float] = field(default_factory=dict)
     text: str = ""
 
-    def add(self, other: Outcome) -> None:
-        """Takes another module's outcome in."""
-        self.run += other.run
-        self.failed += other.failed
-        self.unexpected += other.unexpected
-        self.skipped += other.skipped
-        self.seconds |= other.seconds
+    def add(self, module: Outcome) -> None:
+        """Takes the outcome of one more module in."""
+        self.run += module.run
+        self.failed += module.failed
+        self.unexpected += module.unexpected
+        self.skipped += module.skipped
+        self.seconds |= module.seconds
 
 
 class TimedResult(unittest.TextTestResult):
     """Keeps the seconds of each test."""
 
     def startTest(self, test: unittest.TestCase) -> None:
-        self.begun = time.monotonic()
+        self.start_time = time.monotonic()
         super().startTest(test)
 
     def stopTest(self, test: unittest.TestCase) -> None:
         super().stopTest(test)
-        outcome.seconds[test.id()] = round(time.monotonic() - self.begun, 1)
+        outcome.seconds[test.id()] = round(time.monotonic() - self.start_time, 1)
 
 
 outcome = Outcome()
@@ -77,26 +77,26 @@ def outcome_of(file: Path) -> Outcome:
     )
     text, _, last = process.stdout.rstrip("\n").rpartition("\n")
     try:
-        found = Outcome(**json.loads(last))
+        module_outcome = Outcome(**json.loads(last))
     except (TypeError, ValueError):
-        found, text = Outcome(run=1, failed=[file.stem]), f"{process.stdout}\nstatus {process.returncode}"
-    ill = found.failed + found.unexpected
+        module_outcome, text = Outcome(run=1, failed=[file.stem]), f"{process.stdout}\nstatus {process.returncode}"
+    ill = module_outcome.failed + module_outcome.unexpected
     # One write, so that no other module's line comes between the text and its line's end.
-    told = f"{found.run - len(ill)} passed, {len(ill)} failed in {time.monotonic() - begin:.0f} s"
+    told = f"{module_outcome.run - len(ill)} passed, {len(ill)} failed in {time.monotonic() - begin:.0f} s"
     print(f"{text}\n" * bool(ill) + f"{file.stem}: {told}\n", end="", flush=True)
-    return found
+    return module_outcome
 
 
 def run_modules(files: Iterable[Path]) -> Outcome:
     """Runs the tests of files side by side; the last lines name the ten tests that took longest."""
-    whole = Outcome()
+    all_outcomes = Outcome()
     first = sorted(files, key=lambda file: (file.stem not in LONGEST, -file.stat().st_size))
     with ThreadPoolExecutor(len(os.sched_getaffinity(0))) as pool:
-        for found in pool.map(outcome_of, first):
-            whole.add(found)
-    for name, seconds in sorted(whole.seconds.items(), key=lambda item: -item[1])[:10]:
+        for module_outcome in pool.map(outcome_of, first):
+            all_outcomes.add(module_outcome)
+    for name, seconds in sorted(all_outcomes.seconds.items(), key=lambda item: -item[1])[:10]:
         print(f"{seconds:6.1f} s {name}")
-    return whole
+    return all_outcomes
 
 
 if __name__ == "__main__":

@@ -69,9 +69,9 @@ def import_by(args: argparse.Namespace, configured: dict[str, str], keeps: bool 
     read = [*sources.paths(), *filter(None, [args.names])]
     refuse_unwritable(".", outputs, read)
     options = replace(options_of(args), slow=tuple(names_in(args.slow)), part=tuple(names_in(args.part)))
-    words = [json.dumps([vars(args), configured], sort_keys=True, default=str)]
+    arguments = [json.dumps([vars(args), configured], sort_keys=True, default=str)]
     files = [*read, *filter(None, [args.drivers])]
-    key = key_of(words, files) if keeps and not args.warnings and not args.strict else None
+    key = key_of(arguments, files) if keeps and not args.warnings and not args.strict else None
     if key is not None and (kept := read_kept(key)) is not None:
         with whole_file(args.output) as run, whole_file(args.map) as mapped:
             run.write(kept.run)
@@ -80,7 +80,7 @@ def import_by(args: argparse.Namespace, configured: dict[str, str], keeps: bool 
         return 0
     report = Report()
     messages = import_anew(args, sources, options, report, configured)
-    if key is not None and key == key_of(words, files):  # no file has changed meanwhile
+    if key is not None and key == key_of(arguments, files):  # no file has changed meanwhile
         keep_files(key, args.output, args.map, messages)
     return 1 if args.strict and report.skipped else 0
 

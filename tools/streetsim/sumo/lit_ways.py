@@ -32,13 +32,13 @@ def open_ways_of(net: SumoNet, network: Network) -> list[NodeWays]:
     which have rounds (conflicts), those with a connection whose request is not known, and zippers, where both go by
     turns (merges)."""
     turns, number = turns_by_way(network), {name: at for at, name in enumerate(network.nodes)}
-    found = (
+    node_ways = (
         open_ways_of_junction(number[junction], connections, net.yields.get(junction, {}), turns)
         for junction, connections in connections_of(net).items()
         if junction in number and not is_equal(connections)
         and not any(one.light or one.request is None for one in connections)
     )
-    return [ways for ways in found if ways.yields or any(sign in ALWAYS_STOP for sign in ways.signs)]
+    return [ways for ways in node_ways if ways.yields or any(sign in ALWAYS_STOP for sign in ways.signs)]
 
 
 def open_ways_of_junction(
