@@ -491,9 +491,11 @@ def run_tool(main: Main) -> NoReturn:
             signal.signal(number, end_by_signal)
     signal.signal(signal.SIGALRM, end_again)
     sys.unraisablehook = tell_dropped
-    status = status_of(main)
-    for number in END_SIGNALS:
-        signal.signal(number, signal.SIG_IGN)
+    try:
+        status = status_of(main)
+    finally:
+        for number in (signal.SIGALRM, *END_SIGNALS):  # SIGALRM first: the others set its timer
+            signal.signal(number, signal.SIG_IGN)
     sys.exit(status)
 
 
