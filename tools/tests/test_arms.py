@@ -130,6 +130,8 @@ class Answers(unittest.TestCase):
         self.assertEqual(
             answer(plans, one, one, WHEN), "Undecided, as what decides is doubted with 'a'; here it is better."
         )
+        told = "Undecided: 'b' is not shown to be better or worse, and what decides is doubted with 'a'."
+        self.assertEqual(answer(plans, PlanDifference(50.0, 49.0, -1.0, 2.0), one, WHEN), told)
         plans = self.plans()
         plans[1].folders[1].doubts.append("locked")
         self.assertIn("Undecided, as what decides is doubted with 'b'", answer(plans, one, one, WHEN))
@@ -160,7 +162,7 @@ class Answers(unittest.TestCase):
         doubted = replace(LEFT, doubt="v/c 1.09")
         self.assertEqual(
             said(STRAIGHT, doubted, delay=30.0),
-            ["Undecided, as what decides is doubted; here it flows, but for single movements.", of_left],
+            ["Not sure: here it flows, but for single movements, but what decides is doubted.", of_left],
         )
         flows, loses = said(STRAIGHT, delay=60.0)
         self.assertEqual((flows, loses[:34]), ("It does not flow.", "A vehicle loses 40.0 ± 0.0 s at a "))
@@ -180,7 +182,7 @@ class Answers(unittest.TestCase):
     def test_the_worst_movement(self):
         [told] = worst_movement([runs_of(crossing(), STRAIGHT, replace(LEFT, doubt="full"))], WHEN)
         self.assertEqual(
-            told, "The worst movement, from the west to the north at Junction C, waits 90 s (F); this is doubted: full."
+            told, "The worst movement, from the west to the north at Junction C, waits 90 s (F); this is doubted."
         )
         few = replace(LEFT, means={**LEFT.means, "vehicles_per_hour": 8.0})
         [told] = worst_movement([runs_of(crossing(), STRAIGHT, few)], WHEN)

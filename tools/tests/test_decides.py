@@ -106,7 +106,7 @@ class Beside(Case):
         page = self.folder / "page.html"
         self.tool("report", out, "-o", page)
         first = page.read_text().partition('id="junctions"')[0]
-        self.assertIn('<p class="verdict">Undecided, as what decides is doubted', first)
+        self.assertIn('<p class="verdict">Not sure: here ', first)
         self.assertIn("Doubted most of all: works on A1A2w", first)
 
     def test_a_plan_of_a_search_that_is_not_to_be_trusted(self):
@@ -127,7 +127,7 @@ class Beside(Case):
         self.tool("report", out, "--interval", 27_000, "-o", page)
         first = page.read_text().partition('id="junctions"')[0]
         self.assertIn(told, first)
-        self.assertIn('<p class="verdict">Undecided', first)
+        self.assertIn('<p class="verdict">Not sure: here ', first)
 
 
 @needs_simulator

@@ -202,7 +202,7 @@ class Marks(unittest.TestCase):
 
     def test_why_a_place_is_doubted(self):
         """A councillor's words first; what has no size has its own."""
-        said = {1.2: "more wish to pass than can (v/c 1.20)", 0.93: "nearly as many wish to pass as can (v/c 0.93)"}
+        said = {1.2: "1.20 times as many wish to pass as can", 0.93: "nearly as many wish to pass as can (93 %)"}
         for size, told in said.items():
             self.assertIn(told, why(Doubt(MOVEMENT, "B", "a", f"v/c {size:.2f}", ALL, target="b", size=size)))
         self.assertEqual(why(Doubt(MOVEMENT, "B", "a", "two rescues", ALL)), "two rescues")
@@ -217,8 +217,8 @@ class Marks(unittest.TestCase):
         ]
         text = places_table(plans)
         self.assertEqual(text.count("<tr>"), 2)
-        self.assertIn("before and after", text)
-        self.assertIn("(v/c 1.20)", text)
+        self.assertIn("before (0.93) and after (1.20)", text)
+        self.assertIn("1.20 times as many wish to pass as can", text)
         self.assertEqual(places_table([Runs("a", {1: Folder("x", mapping, [], 0, 0, 900)})]), "")
 
     def test_a_doubt_of_some_seeds(self):
@@ -262,7 +262,6 @@ class Pages(Given):
             "A vehicle's mean delay at a junction is 31.0 s in place of 92.0 s in the worst time, 0:00 to 0:15: 61.0 s "
             "less (95 % interval of the mean change by dawdling alone: 48.3 to 73.7 s less).",
             "The worst movement, from the west to the east at Junction B, waits 31 s (C), 61.0 s less",
-            "At one of one junction the delay from 0:00 to 0:15 is less beyond the chance of dawdling, at none more.",
             "two runs of each plan, simulated by streetsim; departures as listed: the seeds differ by dawdling alone, "
             "so nothing is sure of another day.",
             "2 vehicles, departures as listed",
@@ -298,7 +297,6 @@ class Pages(Given):
         for told in (
             "departures drawn by each of 2 seeds: intervals are of the mean",
             "61.0 s less (95 % interval of the mean change: 48.3 to 73.7 s less; of one day: 39.0 to 83.0 s less)",
-            "At one of one junction the delay from 0:00 to 0:15 is less for sure, at none more.",
             "No movement loses for sure.",
             "± is the 95 % interval of the mean change, and changes beyond it are bold",
             "Junction B 40 92.0 31.0 -61.0 ± 12.7 F to C",
@@ -376,7 +374,7 @@ class Pages(Given):
     def test_doubts(self):
         self.write_folder("bad", 1, 20.0, ["nobody <arrived>"])
         text = self.page(self.folder / "bad").read_text()
-        self.assertIn("Not to be trusted: bad (why: below).", text)
+        self.assertIn("Not to be trusted: bad, as nobody &lt;arrived&gt; (all reasons: below).", text)
         self.assertIn("<li>bad is not to be trusted: seed 1: nobody &lt;arrived&gt;</li>", text)
         self.assertNotIn("change, s", text)
 

@@ -1,15 +1,19 @@
 """The answer of a page of one plan, a councillor's words first: whether it flows, for all, in the worst time and with
 the worst movement."""
 from streetsim.base.words import time_of_day
-from streetsim.model.doubts import SPREAD
+from streetsim.model.doubts import SPREAD, worst_first
 from streetsim.model.service import level
 from streetsim.report import page_works
 from streetsim.report.page_choice import BAD
 from streetsim.report.page_markup import mean_told
-from streetsim.report.page_verdict import Interval, doubted_share, doubts_of, ranked_rows, slowest, worst_interval
-from streetsim.report.page_words import count_in_words, counted_noun, interval_name
+from streetsim.report.page_verdict import (
+    Interval, doubted_share, doubts_of, lane_is_full, ranked_rows, slowest, worst_interval,
+)  # fmt: skip
+from streetsim.report.page_words import count_in_words, counted_noun, interval_name, why
 from streetsim.report.plan_differences import mean_delays
 from streetsim.report.run_tables import Runs
+
+FLOWS = "it flows"
 
 
 def state_verdict(runs: Runs, interval: Interval) -> list[str]:
@@ -22,9 +26,9 @@ def state_verdict(runs: Runs, interval: Interval) -> list[str]:
 
 
 def state_answer(runs: Runs, worst: Interval) -> list[str]:
-    """The answer, whether it flows, undecided where the plan is not to be trusted, or doubted movements have much of
-    the delay in the worst interval; and a sentence on the delay of all, of that interval, and of the slowest movement
-    there."""
+    """The answer, whether it flows, which is not sure where the plan is not to be trusted, or doubted movements have
+    much of the delay in the worst interval, unless more wish to pass than can; and sentences on the delay of all, of
+    that interval, and of the slowest movement there."""
     movement, every = slowest([runs], worst), runs.intervals()
     flows = how_it_flows(runs, worst)
     all_rows = [row for (table, *_), rows in runs.rows.items() if table == "junctions" for row in rows.values()]
@@ -36,9 +40,16 @@ def state_answer(runs: Runs, worst: Interval) -> list[str]:
     if movement:
         called = f"{runs.names.movement(*movement.key[1:])} at {runs.names.junction_told(movement.key[0])}"
         text += f", and with the worst movement, {called}, {movement.row.delay:.0f} s ({movement.row.letter()})"
-    if doubts_of(runs) or doubted_share(runs, worst) >= SPREAD:
-        return [f"Undecided, as what decides is doubted; here {flows}.", f"{text}."]
-    return [f"{flows[0].upper()}{flows[1:]}.", f"{text}."]
+    texts = [f"{text}.", *lane_is_full(movement)]
+    if doubts_of(runs):
+        return [f"Not sure: here {flows}.", *texts]
+    if doubted_share(runs, worst) < SPREAD:
+        return [f"{flows[0].upper()}{flows[1:]}.", *texts]
+    full = [one for one in worst_first(runs.places) if one.size > 1]
+    if not full or flows == FLOWS:
+        return [f"Not sure: here {flows}, but what decides is doubted.", *texts]
+    more = f"{flows[0].upper()}{flows[1:]}: {why(full[0])}, {full[0].place_told(runs.names)}."
+    return [more, f"How long they wait is not sure. {texts[0]}", *texts[1:]]
 
 
 def how_it_flows(runs: Runs, interval: Interval) -> str:
@@ -49,7 +60,7 @@ def how_it_flows(runs: Runs, interval: Interval) -> str:
         where = f" at {count_in_words(bad)} of {counted_noun(len(rows), 'junction')}" if len(rows) > 1 else ""
         return f"it does not flow{where}"
     movement = slowest([runs], interval)
-    return "it flows, but for single movements" if movement and movement.is_bad else "it flows"
+    return f"{FLOWS}, but for single movements" if movement and movement.is_bad else FLOWS
 
 
 def levels_of(runs: Runs, interval: Interval) -> str:

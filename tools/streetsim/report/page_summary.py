@@ -7,7 +7,7 @@ from statistics import fmean
 
 from streetsim.base.report import HEAVY
 from streetsim.base.words import time_of_day
-from streetsim.model.doubts import MOST_TOLD, Doubt, Place, place_of, worst_first
+from streetsim.model.doubts import MOST_TOLD, Place, place_of, worst_first
 from streetsim.model.loaded_lanes import forecast_doubts, loaded_lanes
 from streetsim.model.replications import told_of_days
 from streetsim.model.service import AT_PRIORITY, AT_SIGNALS, COLOURS
@@ -21,7 +21,7 @@ from streetsim.report.page_state import state_verdict
 from streetsim.report.page_verdict import (
     Interval, LEAST_HOURLY, are_drawn, change_verdict, doubts_of, is_doubted, kind_of_change, ranked_rows,
 )
-from streetsim.report.page_words import counted_noun, how_sure
+from streetsim.report.page_words import counted_noun, how_sure, why
 from streetsim.report.plan_costs import NOTICED, Means, PlanCosts, costs_of, means_by_class
 from streetsim.report.plan_differences import difference_of
 from streetsim.report.run_tables import Runs
@@ -69,10 +69,16 @@ def verdict(plans: Sequence[Runs], interval: Interval) -> str:
     """The answer, a list of its figures, and the worst doubts, as HTML, with a mark where runs are not to be
     trusted."""
     said, *figures = change_verdict(plans, interval) if len(plans) == 2 else state_verdict(plans[0], interval)
-    untrusted = [runs.name for runs in plans if doubts_of(runs)]
-    told = f"Not to be trusted: {' and '.join(untrusted)} (why: below)."
+    untrusted = [f"{runs.name}, as {first_reason(runs)}" for runs in plans if doubts_of(runs)]
+    told = f"Not to be trusted: {'; '.join(untrusted)} (all reasons: below)."
     mark = f'<p class="doubt">{escape(told)}</p>' if untrusted else ""
     return f'{mark}<p class="verdict">{escape(said)}</p>{bullets(figures)}{doubted_line(plans)}'
+
+
+def first_reason(runs: Runs) -> str:
+    """Why a plan is not to be trusted, by the reason that leaves most out of its figures, without its seed."""
+    reasons = [text.partition(": ")[2] for text in doubts_of(runs)]
+    return next((text for text in reasons if "is in no queue" in text or "are in no queue" in text), reasons[0])
 
 
 def doubted_line(plans: Sequence[Runs]) -> str:
@@ -88,8 +94,9 @@ def places_table(plans: Sequence[Runs]) -> str:
     there are none."""
     names, with_plans = plans[-1].names, defaultdict[Place, list[str]](list)
     for runs in plans:
-        for one in worst_first(runs.places):
-            with_plans[place_of(one)].append(runs.name)
+        for doubt in worst_first(runs.places):
+            size = f" ({doubt.size:.2f})" if doubt.size and len(plans) > 1 else ""
+            with_plans[place_of(doubt)].append(f"{runs.name}{size}")
     places = worst_first(place for runs in plans for place in runs.places)
     rows = [
         [escape(one.place_told(names)), escape(" and ".join(with_plans[place_of(one)])), escape(why(one)), one.touches]
@@ -99,13 +106,6 @@ def places_table(plans: Sequence[Runs]) -> str:
     told = f'<p class="small">{counted_noun(max(0, left), "further place")}: column doubt of the tables.</p>'
     more = told if left > 0 else ""
     return table(["doubted", "with", "why", "what it touches"], rows, names=4) + more if rows else ""
-
-
-def why(doubt: Doubt) -> str:
-    """Why a place is doubted, a councillor's words first."""
-    if not doubt.size:
-        return doubt.why
-    return f"{'more wish to pass than can' if doubt.size > 1 else 'nearly as many wish to pass as can'} ({doubt.why})"
 
 
 def service_and_works_map(runs: Runs, interval: Interval, rows: Sequence[RowChange] = (), detailed: int = 0) -> str:
@@ -228,7 +228,8 @@ def worst_movements(movements: Sequence[RowChange], runs: Runs) -> list[str]:
     def called(movement: RowChange) -> str:
         """What a movement is called, with its edges and junction."""
         junction, edge, to = movement.key
-        return f"{names.movement(edge, to)} ({edge} to {to}) at {names.junction_told(junction)}"
+        ids = "" if names.street(edge) else f" ({edge} to {to})"
+        return f"{names.movement(edge, to)}{ids} at {names.junction_told(junction)}"
 
     worst = max(busy, key=lambda movement: movement.row.delay)
     level, hourly = worst.row.letter(), f"{worst.row.means['vehicles_per_hour']:.0f} vehicles an hour"
@@ -250,7 +251,7 @@ def worst_movements(movements: Sequence[RowChange], runs: Runs) -> list[str]:
 
 def doubt_told(one: RowChange) -> str:
     """What doubts a row, as the end of a sentence; empty where nothing does."""
-    return f"; this is doubted: {one.row.doubt}" if one.row.doubt else ""
+    return "; this is doubted" if one.row.doubt else ""
 
 
 def doubted(plans: Sequence[Runs], further_doubts: Sequence[str] = ()) -> str:

@@ -14,6 +14,7 @@ from streetsim.report.run_tables import Runs
 
 Interval = tuple[int, int]  # begin and end, seconds
 GROWN = 1.05  # times as many vehicles: from there on a forecast is one of growth
+OFTEN = 10.0  # per cent of the cycles
 LEAST_HOURLY = 20  # vehicles an hour of a movement that is called the worst
 
 
@@ -80,8 +81,10 @@ def answer(
     if trip.half is None:
         return "Undecided: one run of each says nothing of chance (streetsim-run --seeds 1-5)."
     if doubtful := [runs.name for runs in plans if doubts_of(runs) or doubted_share(runs, worst) >= SPREAD]:
-        here = "" if verdicts[0] == UNDECIDED else f"; here it is {verdicts[0]}"
-        return f"Undecided, as what decides is doubted with {' and '.join(map(repr, doubtful))}{here}."
+        doubt = f"what decides is doubted with {' and '.join(map(repr, doubtful))}"
+        if verdicts[0] == UNDECIDED:
+            return f"Undecided: '{plans[1].name}' is not shown to be better or worse, and {doubt}."
+        return f"Undecided, as {doubt}; here it is {verdicts[0]}."
     if verdicts[0] == verdicts[1] or not of_worst:
         return f"{verdicts[0].capitalize()}{' for all, and in the worst time,' + of_worst if of_worst else ''}."
     return f"{verdicts[0].capitalize()} for all, {verdicts[1]} in the worst time,{of_worst}."
@@ -135,21 +138,31 @@ def worst_movement(plans: Sequence[Runs], interval: Interval) -> Iterator[str]:
         return
     called = f"{names.movement(*worst.key[1:])} at {names.junction_told(worst.key[0])}"
     change = f", {change_in_words(worst.change)}" if worst.change else ""
-    doubt = f"; this is doubted: {worst.row.doubt}" if worst.row.doubt else ""
+    doubt = "; this is doubted" if worst.row.doubt else ""
     yield f"The worst movement, {called}, waits {worst.row.delay:.0f} s ({worst.row.letter()}){change}{doubt}."
+    yield from lane_is_full(worst)
+
+
+def lane_is_full(movement: RowChange | None) -> Iterator[str]:
+    """A sentence on the lane of a movement, with the last plan, where it is full in OFTEN of the cycles, as the queue
+    then stands before the lanes beside."""
+    means = movement.row.means if movement else {}
+    if means.get("full_percent", 0.0) >= OFTEN:
+        queue = f"95 % of the queues are {means['queue_95_m']:.0f} m or less"
+        yield f"Its lane of {means['storage_m']:.0f} m is full in {means['full_percent']:.0f} % of the cycles: {queue}."
 
 
 def counted_changes(plans: Sequence[Runs], interval: Interval) -> Iterator[str]:
     """A sentence on how many junctions wait less and more in the interval that is shown, those that are doubted apart;
     nothing of one seed."""
     rows = ranked_rows(plans, interval)
-    if not any(one.change and one.change.half is not None for one in rows):
+    if len(rows) < 2 or not any(one.change and one.change.half is not None for one in rows):
         return
     sure = [one for one in rows if not is_doubted(one)]
     changed = [change > 0 for change in changes_that_stand_out(sure).values()]
     less, more = (count_in_words(changed.count(up)) if up in changed else "none" for up in (False, True))
     left = len(rows) - len(sure)
-    doubt = f"; {count_in_words(left)} {'is' if left == 1 else 'are'} doubted" if left else ""
+    doubt = f"; {count_in_words(left)} {'is' if left == 1 else 'are'} doubted and not counted" if left else ""
     junctions = counted_noun(len(rows), "junction")
     when = f"from {time_of_day(interval[0])} to {time_of_day(interval[1])}"
     yield f"At {less} of {junctions} the delay {when} is less {how_sure(are_drawn(plans))}, at {more} more{doubt}."
@@ -165,8 +178,12 @@ def works_told(plans: Sequence[Runs], trip: PlanDifference | None) -> Iterator[s
     queue and when that is, and its worst period."""
     if trip:
         hours = trip.change * plans[1].vehicles / 3600
-        half = "" if trip.half is None else f" ± {trip.half * plans[1].vehicles / 3600:,.0f}"
-        sure = "" if trip.half is None or trip.stands_out() else ", which is not shown to differ from none"
-        yield f"all trips together take {abs(hours):,.0f}{half} vehicle-hours {'less' if hours < 0 else 'more'}{sure}"
+        half = (trip.half or 0.0) * plans[1].vehicles / 3600
+        if trip.half is not None and not trip.stands_out():
+            reach = f"between {half - hours:,.0f} vehicle-hours less and {hours + half:,.0f} more"
+            yield f"all trips together take {reach}: {counted_noun(len(plans[1].folders), 'run')} cannot say which"
+        else:
+            width = f" ± {half:,.0f}" if half else ""
+            yield f"all trips together take {abs(hours):,.0f}{width} vehicle-hours {'less' if hours < 0 else 'more'}"
     for works in page_works.seen_in(plans[1]):
         yield page_works.worst_told(plans[1], works)

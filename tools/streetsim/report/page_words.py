@@ -1,4 +1,5 @@
 """Changes and intervals in words."""
+from streetsim.model.doubts import OF_WORKS, Doubt
 from streetsim.report.plan_differences import PlanDifference
 
 NUMBERS = ("no", "one", "two", "three", "four", "five", "six", "seven", "eight", "nine", "ten", "eleven", "twelve")
@@ -58,3 +59,12 @@ def change_in_words(difference: PlanDifference) -> str:
         return f"{less_or_more(difference.change)} (of one run)"
     change = less_or_more(difference.change) if difference.stands_out() else "not shown to differ"
     return f"{change} ({intervals_in_words(difference)})"
+
+
+def why(doubt: Doubt) -> str:
+    """Why a place is doubted, in a councillor's words."""
+    if not doubt.size:
+        return doubt.why
+    more = f"{doubt.size:.2f} times as many wish to pass as can"
+    told = more if doubt.size > 1 else f"nearly as many wish to pass as can ({100 * doubt.size:.0f} %)"
+    return f"{told} ({doubt.why})" if doubt.kind == OF_WORKS else told

@@ -118,7 +118,7 @@ def place_told(runs: Runs, works: SeenWorks) -> str:
     street = f"{runs.names.street(edge)} ({edge})" if runs.names.street(edge) else edge
     where = f"{street}, {runs.names.coming_from(edge)}, lane {lane}, {float(begin):.0f} to {float(end):.0f} m"
     title = f"{runs.name}: {where}, from {time_of_day(first)} to {time_of_day(last)}"
-    head = ["period", "passed", "capacity/h", "mean delay, s", "queue 50 %, m", "95 %", "greatest delay, s"]
+    head = ["period", "passed", "least/h with a queue", "mean delay, s", "queue 50 %, m", "95 %", "greatest delay, s"]
     head += ["greatest queue, m", "longest stand, s"]
     rows = [
         [f'<span class="ids">{time_of_day(start)} to {time_of_day(stop)}</span>']
