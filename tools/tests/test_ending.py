@@ -80,7 +80,7 @@ class Endings(Case):
         self.assertIn("ended at 60 s: all have arrived", told)
 
     def test_roads_that_give_way(self):
-        # Two streets become one without a light; that from b gives way, for which rounds make signal lines.
+        # Two streets become one without a light; that from b gives way, for which the run sends signal lines.
         edges = [("a", "A", "C", [lane("a", 0)]), ("b", "B", "C", [lane("b", 0)]), ("c", "C", "D", [lane("c", 0)])]
         text = net(edges, [("a", 0, "c", 0, 'via=":C_0_0"'), ("b", 0, "c", 0, 'via=":C_1_0"')]).replace(
             '<junction id="C" type="priority" x="0" y="0"/>',
@@ -99,7 +99,7 @@ class Endings(Case):
         for more in ((), ("--until", 600)):
             told = self.tool("run", *words, *more)[0]
             self.assertIn("86 vehicles, 86 arrived", told)
-            self.assertIn("1 junctions without a light give way", told)
+            self.assertIn("1 street that gives way without a light is nearly full", told)
             self.assertEqual("all have arrived" in told, not more)
 
 
