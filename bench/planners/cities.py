@@ -23,7 +23,7 @@ class City:
         """Makes the city's files, where they are not there."""
         size = f"--grid --grid.number {self.side} --grid.length 200 -L 1 -j traffic_light --no-turnarounds true"
         often = f"-b 0 -e 3600 -p {3600 / self.vehicles:g} --max-distance 2500 --seed 3"
-        for words, name in (
+        for command, name in (
             (f"netgenerate {size} --seed 1 -o city.net.xml", "city.net.xml"),
             (f"python3 {shared.RANDOM_TRIPS} -n city.net.xml {often} -r city.rou.xml", "city.rou.xml"),
             (
@@ -33,7 +33,7 @@ class City:
             ),
         ):
             if not (folder / name).exists():
-                shared.run(words.split(), folder)
+                shared.run(command.split(), folder)
 
     def inside(self, folder: Path) -> set[str]:
         """The vehicles whose whole way lies in the box."""
