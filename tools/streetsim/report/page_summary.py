@@ -7,7 +7,7 @@ from statistics import fmean
 
 from streetsim.base.report import HEAVY
 from streetsim.base.words import time_of_day
-from streetsim.model.doubts import MOST_TOLD, Place, place_of, worst_first
+from streetsim.model.doubts import MOST_TOLD, OF_WORKS, Doubt, Place, place_of, worst_first
 from streetsim.model.loaded_lanes import forecast_doubts, loaded_lanes
 from streetsim.model.replications import told_of_days
 from streetsim.model.service import AT_PRIORITY, AT_SIGNALS, COLOURS
@@ -77,6 +77,10 @@ def verdict(plans: Sequence[Runs], interval: Interval) -> str:
 
 def first_reason(runs: Runs) -> str:
     """Why a plan is not to be trusted, by the reason that leaves most out of its figures, without its seed."""
+    edges = dict.fromkeys(one.edge for one in runs.places if one.kind == OF_WORKS)
+    if left := [clock for clock in (page_works.left_at(runs, edge) for edge in edges) if clock is not None]:
+        at = time_of_day(min(left))
+        return f"the queue before the works reaches the end of the network at {at}: who waits beyond is in no figure"
     reasons = [text.partition(": ")[2] for text in doubts_of(runs)]
     return next((text for text in reasons if "is in no queue" in text or "are in no queue" in text), reasons[0])
 
@@ -84,9 +88,15 @@ def first_reason(runs: Runs) -> str:
 def doubted_line(plans: Sequence[Runs]) -> str:
     """The worst doubted places of all plans, as HTML; empty where there are none."""
     names, places = plans[-1].names, worst_first(place for runs in plans for place in runs.places)
-    told = "; ".join(f"{one.place_told(names)}: {why(one)}" for one in places[:MOST_TOLD])
+    told = "; ".join(f"{one.place_told(names)}{with_plan(one, plans)}: {why(one)}" for one in places[:MOST_TOLD])
     more = f"; and {counted_noun(len(places) - MOST_TOLD, 'other place')}" if len(places) > MOST_TOLD else ""
-    return f'<p class="doubt">Doubted most of all: {escape(told + more)}.</p>' if places else ""
+    return f'<p class="doubt">Why it is not sure: {escape(told + more)}.</p>' if places else ""
+
+
+def with_plan(doubt: Doubt, plans: Sequence[Runs]) -> str:
+    """With which of two plans a doubt is, behind a comma; empty of one plan."""
+    names = [runs.name for runs in plans if doubt in runs.places]
+    return f", with '{names[0]}'" if len(plans) > 1 and names else ""
 
 
 def places_table(plans: Sequence[Runs]) -> str:

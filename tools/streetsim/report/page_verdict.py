@@ -57,6 +57,7 @@ def change_verdict(plans: Sequence[Runs], interval: Interval) -> list[str]:
     delay = delay_change(plans, worst)
     texts = [answer(plans, trip, delay, worst)]
     if kind_of_change(*plans) is LANE:
+        texts = [*page_works.advice(plans[1]), *texts]
         texts += [f"{text[0].upper()}{text[1:]}." for text in works_told(plans, trip)]
     if trip:
         means = f"{trip.mean_after:.1f} s in place of {trip.mean_before:.1f} s"
@@ -81,7 +82,7 @@ def answer(
     if trip.half is None:
         return "Undecided: one run of each says nothing of chance (streetsim-run --seeds 1-5)."
     if doubtful := [runs.name for runs in plans if doubts_of(runs) or doubted_share(runs, worst) >= SPREAD]:
-        doubt = f"what decides is doubted with {' and '.join(map(repr, doubtful))}"
+        doubt = f"what decides is doubted with {'both plans' if len(doubtful) > 1 else repr(doubtful[0])}"
         if verdicts[0] == UNDECIDED:
             return f"Undecided: '{plans[1].name}' is not shown to be better or worse, and {doubt}."
         return f"Undecided, as {doubt}; here it is {verdicts[0]}."
@@ -148,8 +149,8 @@ def lane_is_full(movement: RowChange | None) -> Iterator[str]:
     then stands before the lanes beside."""
     means = movement.row.means if movement else {}
     if means.get("full_percent", 0.0) >= OFTEN:
-        queue = f"95 % of the queues are {means['queue_95_m']:.0f} m or less"
-        yield f"Its lane of {means['storage_m']:.0f} m is full in {means['full_percent']:.0f} % of the cycles: {queue}."
+        lane = f"Its lane, {means['storage_m']:.0f} m long, is full in {means['full_percent']:.0f} % of the cycles"
+        yield f"{lane}; in 95 % of them the queue reaches {means['queue_95_m']:.0f} m or less."
 
 
 def counted_changes(plans: Sequence[Runs], interval: Interval) -> Iterator[str]:

@@ -65,6 +65,6 @@ def why(doubt: Doubt) -> str:
     """Why a place is doubted, in a councillor's words."""
     if not doubt.size:
         return doubt.why
-    more = f"{doubt.size:.2f} times as many wish to pass as can"
+    more = f"up to {doubt.size:.2f} times as many wish to pass as can"
     told = more if doubt.size > 1 else f"nearly as many wish to pass as can ({100 * doubt.size:.0f} %)"
     return f"{told} ({doubt.why})" if doubt.kind == OF_WORKS else told

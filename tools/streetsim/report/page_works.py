@@ -2,7 +2,7 @@
 where works.csv, queues.csv or edges.csv cannot be read."""
 import os
 from collections import defaultdict
-from collections.abc import Iterable, Sequence
+from collections.abc import Iterable, Iterator, Sequence
 from dataclasses import dataclass
 from html import escape
 from statistics import fmean
@@ -11,6 +11,7 @@ from streetsim.base.colours import LINE, OTHER_LINE
 from streetsim.base.shapes import point_along
 from streetsim.base.words import time_of_day
 from streetsim.model import tables
+from streetsim.model.doubts import OF_WORKS, QUEUES, worst_first
 from streetsim.model.folder import Folder
 from streetsim.model.mapping import Map, Shape
 from streetsim.report.edge_values import traffic_of
@@ -133,6 +134,24 @@ def place_told(runs: Runs, works: SeenWorks) -> str:
     return f'<section class="whole"><h3>{escape(title)}</h3>{table(head, rows)}{total}{picture}</section>'
 
 
+def advice(runs: Runs) -> Iterator[str]:
+    """A sentence that says no where more come than the open lane passes, by the worst doubt of works; nothing else."""
+    for one in worst_first(runs.places)[:1]:
+        if one.kind == OF_WORKS and one.size > 1:
+            times = f"{time_of_day(one.begin)} to {time_of_day(one.end)}"
+            more = f"up to {one.size:.2f} times as many"
+            said = "these runs do not say that it may be closed"
+            yield f"From {times} more come than the open lane passes, {more}: {said}."
+
+
+def left_at(runs: Runs, edge: str) -> int | None:
+    """The minute, in seconds, in which the queue before works on an edge first reached the end of the network; None: it
+    did not."""
+    doubts = (one for folder in runs.folders.values() for one in folder.places)
+    left = [one.begin for one in doubts if (one.kind, one.edge, one.touches) == (OF_WORKS, edge, QUEUES)]
+    return min(left) // 60 * 60 if left else None
+
+
 def worst_told(runs: Runs, works: SeenWorks) -> str:
     """Who passes works, their longest queue and when it is, and the worst period, as a part of a sentence."""
     def delay(own: Sequence[dict[str, str]]) -> float:
@@ -141,14 +160,17 @@ def worst_told(runs: Runs, works: SeenWorks) -> str:
 
     edge, street = works.place_key[0], runs.names.street(works.place_key[0])
     place = f"on {street}, {runs.names.coming_from(edge)};" if street else f"on {edge};"
-    passed = sum(float(mean_of(own, "vehicles") or 0) for own in works.rows.values())
+    passing = sum(float(mean_of(own, "vehicles") or 0) for own in works.rows.values())
     (begin, end), longest = max(works.rows.items(), key=lambda item: float(most_of(item[1], "queue_max_m") or 0))
     (first, last), worst = max(works.rows.items(), key=lambda item: delay(item[1]))
-    metres = most_of(longest, "queue_max_m") or "0"
+    metres, left = most_of(longest, "queue_max_m") or "0", left_at(runs, edge)
+    queue = f"the longest queue is {metres} m, from {time_of_day(begin)} to {time_of_day(end)}"
+    if left is not None:
+        queue = f"the queue first reaches the end of the network, {metres} m, at {time_of_day(left)}, and who waits "
+        queue += "beyond it is in no figure"
     return (
-        f"{passed:,.0f} vehicles pass the works {place} the longest queue is {metres} m, from "
-        f"{time_of_day(begin)} to {time_of_day(end)}; in the worst time, {time_of_day(first)} to {time_of_day(last)}, "
-        f"one who passes waits {delay(worst):.0f} s"
+        f"{passing:,.0f} vehicles pass the works {place} {queue}; in the worst time, {time_of_day(first)} to "
+        f"{time_of_day(last)}, one who passes waits {delay(worst):.0f} s"
     )
 
 
