@@ -17,7 +17,11 @@ from dataclasses import asdict, dataclass, field
 from pathlib import Path
 
 # Modules whose tests take longest: they begin first, so that no processor waits for the last one.
-LONGEST: tuple[str, ...] = ()
+LONGEST = (
+    "test_doors", "test_study", "test_route", "test_walks", "test_decides", "test_traci", "test_sealed",
+    "test_signal_plans", "test_mutants", "test_served", "test_samples", "test_kept_sessions", "test_recorded",
+    "test_first_minute",
+)
 
 
 @dataclass
@@ -90,7 +94,8 @@ def outcome_of(file: Path) -> Outcome:
 def run_modules(files: Iterable[Path]) -> Outcome:
     """Runs the tests of files side by side; the last lines name the ten tests that took longest."""
     all_outcomes = Outcome()
-    first = sorted(files, key=lambda file: (file.stem not in LONGEST, -file.stat().st_size))
+    places = {name: place for place, name in enumerate(LONGEST)}
+    first = sorted(files, key=lambda file: (places.get(file.stem, len(places)), -file.stat().st_size))
     with ThreadPoolExecutor(len(os.sched_getaffinity(0))) as pool:
         for module_outcome in pool.map(outcome_of, first):
             all_outcomes.add(module_outcome)

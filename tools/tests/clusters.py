@@ -71,7 +71,7 @@ class ClusterCase(Case):
             for worker in ran[:1]:
                 os.kill(worker.pid, signal.SIGKILL)
             try:
-                told = tool.communicate(timeout=120)
+                told = tool.communicate(timeout=300)
             except subprocess.TimeoutExpired:
                 tool.kill()
                 raise
