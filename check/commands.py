@@ -75,7 +75,7 @@ PLACES = {
     "its refusals in LINES": Place(("docs/LINES.md",), r"^\| ([`a-z, ]+) \|", "\nThe order of tests.", "\n## "),
     "a worked row": Place(("crates/street_base/proofs/rows/*.antt",), r"\b([A-Z]\w+)\b"),
     "random sessions": Place(("check/making.py",), r'"(\w+)"'),
-    "the tools' client": Place(("tools/streetsim/base/client.py",), r'self\.ask\("(\w+)"'),
+    "the tools' client": Place(("tools/streetsim/base/client.py",), r'(?:self\.ask\(|"cmd":)"(\w+)"'),
 }
 
 

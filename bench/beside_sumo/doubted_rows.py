@@ -21,7 +21,7 @@ from networks.unseen import MadeNetwork, make, read_net, ways_of
 from planners.works import EDGE_METRES, EDGE_VEHICLES, Case, Stretch, edges_for, in_sumo, mean_trip, run_here
 from shared import run
 from streetsim.model.service import percentile
-from streetsim.model.tables import MOVEMENTS, read_table
+from streetsim.model.tables import JUNCTIONS, MOVEMENTS, read_table
 
 FIRST, LAST = 1350, 2700  # seconds between which movements are compared; the demand begins at 0 and ends at LAST
 SECONDS = range(FIRST, LAST)
@@ -68,9 +68,9 @@ class Compared:
 
 def movements_in_sumo(network: MadeNetwork, seed: int, seconds: range = SECONDS) -> dict[Way, Measured]:
     """A run of SUMO, kept by its seed; seconds: in which vehicles leave that count."""
-    seed_file = network.folder / f"movements-{seed}.json"
+    seed_file = network.folder / f"movements-of-seconds-{seed}.json"
     if not seed_file.exists():
-        queues = write_queues(network, layout_of(network.net), seed)
+        queues = write_queues(network, layout_of(network.net), seed, period=1)
         trips, ways, statistics = rows.files_of_sumo(network, seed, [queues])
         found = measured_in_sumo(network, ways, network.folder / f"jams-{seed}.xml", seconds)
         seed_file.write_text(json.dumps([[*way, *values] for way, values in found.items()]), encoding="utf-8")
@@ -81,7 +81,8 @@ def movements_in_sumo(network: MadeNetwork, seed: int, seconds: range = SECONDS)
 
 
 def measured_in_sumo(network: MadeNetwork, ways: Path, jams: Path, seconds: range) -> dict[Way, tuple]:
-    """(vehicles, seconds lost, metres of the queue on the worst of its lanes) of each movement."""
+    """(vehicles, seconds lost, metres of the queue on the worst of its lanes) of each movement. jams: of each second,
+    since lanes behind each other are not full at the same time."""
     layout, lanes = layout_of(network.net), defaultdict(set)
     for one in ElementTree.parse(network.net).getroot().iter("connection"):
         lanes[one.get("from"), one.get("to")].add(int(one.get("fromLane")))
@@ -89,12 +90,21 @@ def measured_in_sumo(network: MadeNetwork, ways: Path, jams: Path, seconds: rang
     for one in ElementTree.parse(jams).getroot():
         if int(float(one.get("begin"))) in seconds:
             by_lane[one.get("id")].append(float(one.get("maxJamLengthInMeters")))
-    found = {}
+    movements = {}
     for (edge, target), values in lost_between(ways, layout, seconds).items():
         paths = [layout.lanes[edge][lane] for lane in sorted(lanes[edge, target])] if edge in layout.lit else []
-        queues = [percentile(whole_jams(path, by_lane, layout), 0.95) for path in paths]
-        found[edge, target] = len(values), fmean(values), max(queues, default=0.0)
-    return found
+        by_path = [longest_of_cycles(whole_jams(path, by_lane, layout), seconds, layout.lit[edge]) for path in paths]
+        queues = [percentile(queues, 0.95) for queues in by_path]
+        movements[edge, target] = len(values), fmean(values), max(queues, default=0.0)
+    return movements
+
+
+def longest_of_cycles(metres: Sequence[float], seconds: range, cycle: int) -> list[float]:
+    """The longest queue in each cycle, of those of each second."""
+    longest = dict[int, float]()
+    for second, queue in zip(seconds, metres, strict=True):
+        longest[second // cycle] = max(queue, longest.get(second // cycle, 0.0))
+    return list(longest.values())
 
 
 def movements_here(network: MadeNetwork, seeds: Sequence[int], args: argparse.Namespace) -> list[dict[Way, Measured]]:
@@ -136,17 +146,28 @@ def compared_movements(network: MadeNetwork, args: argparse.Namespace) -> Iterat
 # ---- works on a street at its peak
 
 
-def compared_works(network: MadeNetwork, draws: Random, args: argparse.Namespace) -> Iterator[Compared]:
-    """What works add to the trips of those who pass their edge; nothing where no edge has room for them."""
+def drawn_works(network: MadeNetwork, draws: Random) -> Stretch | None:
+    """Works on the edge with room for them that most vehicles pass; none where no edge has."""
     net, through = read_net(network.net), Counter(edge for way in ways_of(network.routes[0]) for edge in way)
     sizes = ((least, few) for few in EDGE_VEHICLES for least in EDGE_METRES)
     if not (able := next(filter(None, (edges_for(net, through, *size) for size in sizes)), [])):
-        return
+        return None
     edge = max(able, key=lambda one: (through[one.getID()], one.getID()))
     begin = draws.randrange(40, int(edge.getLength()) - WORKS_METRES - 20)
-    works = Stretch(edge.getID(), draws.randrange(edge.getLaneNumber()), begin, begin + WORKS_METRES, FIRST // 2, LAST)
-    case = Case(network.folder, network.net, tuple(network.routes), tuple(network.additional), LAST + FIRST)
-    passing = {car for car, way in ways_by_car(network.routes[0]) if edge.getID() in way}
+    return Stretch(edge.getID(), draws.randrange(edge.getLaneNumber()), begin, begin + WORKS_METRES, FIRST // 2, LAST)
+
+
+def case_of(network: MadeNetwork) -> Case:
+    """The case of a network with works."""
+    return Case(network.folder, network.net, tuple(network.routes), tuple(network.additional), LAST + FIRST)
+
+
+def compared_works(network: MadeNetwork, draws: Random, args: argparse.Namespace) -> Iterator[Compared]:
+    """What works add to the trips of those who pass their edge; nothing where no edge has room for them."""
+    if not (works := drawn_works(network, draws)):
+        return
+    case = case_of(network)
+    passing = {car for car, way in ways_by_car(network.routes[0]) if works.edge in way}
     joint, added, doubt = f"{works.edge}_{works.lane}", [], ""
     for side in (in_sumo, lambda *asked: run_here(*asked, args.program, joint, args.tools)):
         with_works, without = (
@@ -223,22 +244,50 @@ def main_doubted_rows(argv: list[str]) -> int | None:
 
 # ---- what a page of two plans says first
 
-VERDICT = re.compile('<p class="verdict">(Better|Worse|Undecided)')
+VERDICT = re.compile('<p class="verdict">(Better|Worse|Undecided|Not)')
+NO_PAGE = "no junction, no page"  # of a street
+OF_WORKS = {"Not": "Worse"}  # from when to when a lane may not be closed
 
 
-def first_word(base: MadeNetwork, variant: MadeNetwork, args: argparse.Namespace) -> str:
-    """What the page of a plan in the place of another says first: Better, Worse or Undecided."""
+def first_word(variants: Sequence[tuple[MadeNetwork, list[str]]], until: int, args: argparse.Namespace) -> str:
+    """What the page of a plan in the place of another says first: Better, Worse or Undecided. variants: of both the
+    network and further words of its runs."""
     folders = []
-    for network, name in ((base, "base"), (variant, "variant")):
+    for number, (network, more) in enumerate(variants):
         files = [network.net, *network.additional, "--routes", *network.routes]
         run([args.tools / "streetsim-import", *files, "-o", "run.jsonl", "--map", "run.map.json"], network.folder)
-        words = ["run.jsonl", "--map", "run.map.json", "--until", network.seconds, "--junctions", 900, "--every", 0]
+        words = ["run.jsonl", "--map", "run.map.json", "--until", until, "--junctions", 900, "--every", 0, *more]
         words += ["--seeds", f"{args.runs[0]}-{args.runs[-1]}", "--departures", "listed", "--jobs", 1, "--force"]
-        run([args.tools / "streetsim-run", *words, "--program", args.program, "--out", name], network.folder)
-        folders.append(network.folder / name)
-    run([args.tools / "streetsim-report", *folders, "--short", "-o", "page.html"], variant.folder)
-    found = VERDICT.search((variant.folder / "page.html").read_text(encoding="utf-8"))
-    return found[1] if found else "nothing"
+        words += ["--program", args.program, "--out", f"variant-{number}"]
+        run([args.tools / "streetsim-run", *words], network.folder)
+        folders.append(network.folder / f"variant-{number}")
+    if not read_table(f"{folders[0]}/seed-{args.runs[0]}/junctions.csv", JUNCTIONS):
+        return NO_PAGE
+    run([args.tools / "streetsim-report", *folders, "--short", "-o", "page.html"], folders[0].parent)
+    found = VERDICT.search((folders[0].parent / "page.html").read_text(encoding="utf-8"))
+    return OF_WORKS.get(found[1], found[1]) if found else "nothing"
+
+
+def plans_said(base: MadeNetwork, case: str, args: argparse.Namespace) -> tuple[float, str]:
+    """(seconds by which the mean trip changes in SUMO with another plan, what the page says first)."""
+    variant = variant_of(base, case)
+    sides = [[fmean(b - a for a, b in lit.in_sumo(one, run_seed).trips.values()) for run_seed in args.runs]
+             for one in (base, variant)]  # fmt: skip
+    said = first_word([(base, []), (variant, [])], base.seconds, args)
+    return fmean(sides[1]) - fmean(sides[0]), said
+
+
+def works_said(network: MadeNetwork, draws: Random, args: argparse.Namespace) -> tuple[float, str] | None:
+    """The same of works at a street's peak; none where no edge has room for them."""
+    if not (works := drawn_works(network, draws)):
+        return None
+    case = case_of(network)
+    means = [
+        fmean(mean_trip(in_sumo(case, closed, seed, label), 0, LAST, case.until) for seed in args.runs)
+        for closed, label in ((None, "none"), (works, "works"))
+    ]
+    joint = network, ["--joint", f"{works.edge}_{works.lane}"]
+    return means[1] - means[0], first_word([joint, (network, ["--close", works.closing()])], case.until, args)
 
 
 def main_first_sentences(argv: list[str]) -> int | None:
@@ -246,8 +295,9 @@ def main_first_sentences(argv: list[str]) -> int | None:
 
     Takes minutes a pair; needs sumo, sumo-tools.
 
-    Lone lights, with another cycle or other greens. A first word is right where the mean trip changes that way in SUMO,
-    in the mean of the seeds, or where it is undecided. What SUMO wrote is kept in the folder of --work.
+    Lone lights, with another cycle or other greens, and each fourth pair a street without and with works of half an
+    hour. A first word is right where the mean trip changes that way in SUMO, in the mean of the seeds, or where it is
+    undecided. What SUMO wrote is kept in the folder of --work.
     """
     parser = rows.parser_of(main_first_sentences, "1-5")
     parser.add_argument("--networks", default=20, type=int, help="how many")
@@ -258,12 +308,16 @@ def main_first_sentences(argv: list[str]) -> int | None:
              for _ in range(args.networks)]  # fmt: skip
     for at in args.part:
         seed, level, case = drawn[at - 1]
-        base = make("lone-light", seed, folder, level, seconds=LAST)
-        variant = variant_of(base, case)
-        sides = [[fmean(b - a for a, b in lit.in_sumo(one, run_seed).trips.values()) for run_seed in args.runs]
-                 for one in (base, variant)]  # fmt: skip
-        change, said = fmean(sides[1]) - fmean(sides[0]), first_word(base, variant, args)
-        is_right = said == "Undecided" or (said == "Better") == (change < 0)
+        if at % WORKS_EVERY == 0:
+            network, case = make("street", seed, folder, WORKS_LEVEL, seconds=LAST), "works"
+            answer = works_said(network, Random(f"works {seed}"), args)
+        else:
+            network = make("lone-light", seed, folder, level, seconds=LAST)
+            answer = plans_said(network, case, args)
+        if answer is None or answer[1] == NO_PAGE:
+            continue
+        change, said = answer
+        is_right = said == "Undecided" or said == ("Better" if change < 0 else "Worse")
         right[is_right] += 1
-        print(f"{base.name}-{level}, {case}: SUMO {change:+.1f} s, {said}{'' if is_right else ': wrong'}", flush=True)
+        print(f"{network.name}, {case}: SUMO {change:+.1f} s, {said}{'' if is_right else ': wrong'}", flush=True)
     print(f"right: {right[True]} of {right.total()}")

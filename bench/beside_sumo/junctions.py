@@ -274,6 +274,7 @@ COUNT_END = 2400  # second at which the count ends
 SHARES = {"straight": 0.6, "left": 0.2, "right": 0.2}
 MOST_OFF = 0.08
 Loads = dict[str, int]  # vehicles an hour, by arm
+Arm = tuple[str, str]  # of a junction
 
 
 def loads_of(kind: str, arms: str, hourly: int) -> list[Loads]:
@@ -324,7 +325,7 @@ def streams_of(arm: str, arms: str, hourly: int, draws: random.Random) -> list[S
     return [Stream(arm + end, hourly * share / sum(shares.values())) for end, share in shares.items()]
 
 
-def passed_by_arm(trips: Trips) -> dict[tuple[str, str], float]:
+def passed_by_arm(trips: Trips) -> dict[Arm, float]:
     """Vehicles an hour that arrived, by junction and arm."""
     arrived = (name.split(".") for name, (_, arrival) in trips.items() if FIRST <= arrival < COUNT_END)
     passed = Counter((name, ends[0]) for name, _, _, ends in arrived)
@@ -337,31 +338,35 @@ def main_all_streams(argv: list[str]) -> int | None:
     Takes minutes; needs sumo.
 
     The arms that are not full have so many vehicles an hour as --hourly tells. It prints how far the vehicles that pass
-    in an hour from full arms are off, by kind; --all: also each arm. All junctions stand in one network that netconvert
-    makes. What SUMO wrote is kept in the folder of --work.
+    in an hour from full arms are off, by kind, over all seeds together; --all: also each arm. All junctions stand in
+    one network that netconvert makes. What SUMO wrote is kept in the folder of --work.
     """
     parser = shared.parser_of(main_all_streams, work=True)
-    parser.add_argument("--seed", type=int, default=1, help="of departures, of shares of turns, and of SUMO")
+    parser.add_argument("--seeds", default="1", type=shared.numbers, help="of departures, turns, and SUMO")
     parser.add_argument("--hourly", default=[150, 300, 450], type=lambda text: [int(one) for one in text.split(",")])
     parser.add_argument("--all", action="store_true", help="also each arm")
     shared.add_some(parser, "--kinds", ALL_KINDS)
     parser.add_argument("--tools", default=shared.TOOLS, type=shared.whole_path, help="other tools than these")
     args = parser.parse_args(argv)
-    folder, every = shared.work_of(args), full_junctions(args.kinds, args.hourly, random.Random(args.seed))
-    net, routes = prepare([full.junction for full in every], folder, args.seed)
-    theirs = passed_by_arm(in_sumo(net, routes, folder, args.seed, COUNT_END))
-    ours = passed_by_arm(run_here(net, routes, folder, args.program, args.tools, COUNT_END))
+    folder, theirs, ours = shared.work_of(args), Counter[Arm](), Counter[Arm]()
+    for seed in args.seeds:
+        every, own = full_junctions(args.kinds, args.hourly, random.Random(seed)), folder / str(seed)
+        own.mkdir(exist_ok=True)
+        net, routes = prepare([full.junction for full in every], own, seed)
+        theirs.update(passed_by_arm(in_sumo(net, routes, own, seed, COUNT_END)))
+        ours.update(passed_by_arm(run_here(net, routes, own, args.program, args.tools, COUNT_END)))
     shared.print_heads("Junction | full arms | within 8 % | difference, mean | absolute, mean | largest")
     differences: dict[str, list[float]] = defaultdict(list)
     for full in every:
         for key in ((full.junction.name, arm) for arm in full.arms()):
-            differences[full.title.rpartition(", ")[0]].append(ours.get(key, 0.0) / theirs[key] - 1)
+            differences[full.title.rpartition(", ")[0]].append(ours[key] / theirs[key] - 1)
     for title, values in differences.items():
         print(full_text(title, values))
     print(full_text("all", [value for values in differences.values() for value in values]))
     for full in every if args.all else ():
         keys = [(full.junction.name, arm) for arm in full.arms()]
-        cells = (f"{key[1]} {theirs[key]:.0f} / {ours.get(key, 0):.0f}" for key in keys)
+        means = ([side[key] / len(args.seeds) for key in keys] for side in (theirs, ours))
+        cells = (f"{arm} {there:.0f} / {here:.0f}" for (_, arm), there, here in zip(keys, *means))
         print(f"    {full.title}: {', '.join(cells)}")
 
 

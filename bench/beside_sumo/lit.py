@@ -242,13 +242,13 @@ def lost_between(path: Path, layout: Layout, seconds: range | None = None) -> di
     return lost
 
 
-def write_queues(network: MadeNetwork, layout: Layout, seed: int) -> Path:
-    """Detectors of the queues of each lane that leads to a light, in each cycle."""
+def write_queues(network: MadeNetwork, layout: Layout, seed: int, period: int = 0) -> Path:
+    """Detectors of the queues of each lane that leads to a light, in each cycle, or by a period in seconds."""
     path = network.folder / f"queues-{seed}.add.xml"
     cycles = {lane: cycle for edge, cycle in layout.lit.items() for way in layout.lanes[edge] for lane in way}
     lines = [
-        f'<laneAreaDetector id="{lane}" lane="{lane}" pos="0" endPos="-0.1" friendlyPos="true" period="{cycle}" '
-        f'file="jams-{seed}.xml"/>' for lane, cycle in cycles.items()
+        f'<laneAreaDetector id="{lane}" lane="{lane}" pos="0" endPos="-0.1" friendlyPos="true" '
+        f'period="{period or cycle}" file="jams-{seed}.xml"/>' for lane, cycle in cycles.items()
     ]
     path.write_text(f"<additional>{''.join(lines)}</additional>", encoding="utf-8")
     return path

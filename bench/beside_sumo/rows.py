@@ -319,16 +319,18 @@ def row_from(cells: dict[str, str]) -> Row:
 REASONS = {  # what a last line names: as it says it
     "lanes that are nearly full by the demand": "nearly full by the demand",
     "streets that give way without a light nearly full": "without a light (is|are) nearly full",
+    "queues that wait for gaps at lights": "wait for gaps at lights",
     "rescues, who waited to enter, who did not arrive": "rescues|waited to enter|had the time to arrive|is locked",
     "other": "",
 }
+PLACES = "; doubted most of all: "  # what a last line has behind it are no reasons
 SPLIT = re.compile("; (?!(?:left|right|straight on|back|where lanes become one) from )")  # not between places
 HEADS = ("The last line names", "rows", "SUMO locks", "within 5 %", "beyond", "off by: median", "most")
 
 
 def reasons(doubt: str) -> set[str]:
     """What a last line names."""
-    parts = SPLIT.split(doubt) if doubt else []
+    parts = SPLIT.split(doubt.partition(PLACES)[0]) if doubt else []
     return {next(name for name, text in REASONS.items() if re.search(text, part)) for part in parts}
 
 

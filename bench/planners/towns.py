@@ -1,8 +1,10 @@
 """What a page of a town takes, beside other tools and SUMO: import, run with junction tables, page."""
 
+import re
 from collections.abc import Callable, Mapping
 from dataclasses import dataclass
 from functools import partial
+from itertools import islice
 from pathlib import Path
 
 import shared
@@ -15,40 +17,61 @@ class Town:
     """A grid of lights and its demand."""
 
     side: int  # lights in a row
-    vehicles: int
-    hours: int = 1
+    vehicles: int  # at most
+    hours: int = 1  # each with the routes of the first
+    lanes: int = 2  # of a street
+    way: str = ""  # words on how far vehicles go
 
     @property
     def net_words(self) -> list[str]:
         """The words of netgenerate."""
-        size = f"--grid --grid.number {self.side} --grid.length 200 -L 2 -j traffic_light"
+        size = f"--grid --grid.number {self.side} --grid.length 200 -L {self.lanes} -j traffic_light"
         return f"netgenerate {size} --no-turnarounds true --seed 1 -o town.net.xml".split()
 
     @property
     def trips_words(self) -> list[str]:
-        """The words of randomTrips."""
-        seconds = 3600 * self.hours
-        often = f"-b 0 -e {seconds} -p {seconds / self.vehicles:g} --seed 1"
-        return f"python3 {shared.RANDOM_TRIPS} -n town.net.xml {often} -r town.rou.xml".split()
+        """The words of randomTrips, for the first hour."""
+        often = f"-b 0 -e 3600 -p {3600 * self.hours / self.vehicles:g} {self.way} --seed 1"
+        return f"python3 {shared.RANDOM_TRIPS} -n town.net.xml {often} -r hour.rou.xml".split()
+
+    def write_routes(self, folder: Path) -> None:
+        """Writes the routes of all hours, of those of the first."""
+        text = (folder / "hour.rou.xml").read_text(encoding="utf-8")
+        found = re.findall(r'<vehicle id="(\d+)" depart="([\d.]+)">\s*<route edges="([^"]*)"/>', text)
+        rows = (
+            f'<vehicle id="{hour}.{name}" depart="{float(depart) + 3600 * hour:.2f}">'
+            f'<route edges="{edges}"/></vehicle>\n'
+            for hour in range(self.hours)
+            for name, depart, edges in found
+        )
+        with open(folder / "town.rou.xml", "w", encoding="utf-8") as file:
+            file.writelines(["<routes>\n", *islice(rows, self.vehicles), "</routes>\n"])
 
 
-TOWNS = {"20x20": Town(20, 20_000), "15x15": Town(15, 9_000), "million": Town(20, 1_000_000, 50)}
+# Of a million the trips are short, as its town has one lane a street: 30 by 30 lights, near the limit of links.
+MILLION = Town(30, 1_000_000, 24, 1, "--max-distance 2500")
+TOWNS = {"20x20": Town(20, 20_000), "15x15": Town(15, 9_000), "million": MILLION}
 USUAL = ("20x20", "15x15")
 STEPS = {  # by what is measured: the words of the tools
     "import": ("streetsim-import", "town.net.xml", "--routes", "town.rou.xml"),
+    "run": ("streetsim-run", "town.jsonl"),
     "run --junctions": ("streetsim-run", "town.jsonl", "--junctions", "900"),
+    "page": ("streetsim-open", "town-run", "--no-open"),
     "open": ("streetsim-open", "town.net.xml", "town.rou.xml", "--no-open"),
 }
+USUAL_STEPS = ("import", "run --junctions", "open")
 SUMO = "sumo -n ../town.net.xml -r ../town.rou.xml --no-step-log --no-warnings --tripinfo-output t.xml"
 SUMO += " --summary-output s.xml --queue-output q.xml"
 
 
 def make(town: Town, folder: Path) -> None:
     """Makes a town's files, where they are not there, and prints how."""
-    for words, name in ((town.net_words, "town.net.xml"), (town.trips_words, "town.rou.xml")):
+    for words, name in ((town.net_words, "town.net.xml"), (town.trips_words, "hour.rou.xml")):
         print(f"    {' '.join(words)}")
         if not (folder / name).exists():
             shared.run(words, folder)
+    if not (folder / "town.rou.xml").exists():
+        town.write_routes(folder)
 
 
 def turn(tools: Path, program: str, step: str, folder: Path) -> tuple[float, float]:
@@ -72,13 +95,14 @@ def main_towns(argv: list[str]) -> int | None:
 
     Takes minutes a turn; needs sumo, sumo-tools.
 
-    Prints the words of netgenerate and randomTrips. Processor seconds are of all processes, the least of N turns in
-    which the tools of this repository, those of --beside, and SUMO with tripinfo, summary and queues go in turn;
-    memory is the most of them. Tables of runs that differ between the two are named.
+    Prints the words of netgenerate and randomTrips; of a million vehicles each of 24 hours has the routes of the first
+    (--only million --steps import,run,page). Processor seconds are of all processes, the least of N turns in which the
+    tools of this repository, those of --beside, and SUMO with tripinfo, summary and queues go in turn; memory is the
+    most of them. Tables of runs that differ between the two are named.
     """
     parser = shared.parser_of(main_towns, work=True)
     shared.add_some(parser, "--only", TOWNS, USUAL)
-    shared.add_some(parser, "--steps", STEPS)
+    shared.add_some(parser, "--steps", STEPS, USUAL_STEPS)
     beside = "another repository, as a worktree of an earlier commit"
     parser.add_argument("--beside", type=shared.whole_path, help=beside)
     parser.add_argument("--times", type=int, default=2)

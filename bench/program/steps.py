@@ -263,6 +263,16 @@ CACHES = ["--cache-sim=yes", "--D1=32768,8,64", "--LL=1048576,16,64"]
 EVENTS = ("Ir", "D1mr", "DLmr")
 ALL = "PROGRAM TOTALS"  # as callgrind_annotate calls them
 COLUMNS = {"ring 0.3": "Ring, 30 % full", "grid 20000": "Grid, 20,000 vehicles"}  # of RESULTS.md
+# The parts of a step, by what the names of their functions have; the first that fits.
+PARTS = {
+    "rand_chacha|::dice::": "draws, made once in 32 steps",
+    "street_rule::motion": "motion: the walk over a lane's vehicles",
+    "drive_cells": "motion: what begins and ends the walk of each lane",
+    "street_rule::": "lane changes: who wishes, and may",
+    "::sort::|::packing::": "vehicles put in the order of the road",
+    "street_yard::": "who leaves a list and comes to one, or has another place in memory",
+    "run_phase|next_to_depart|::dues::": "the loops of all phases: next lanes, mouths, releases, entries",
+}
 NUMBER = re.compile(r"([\d,]+|\.)(?: \( ?[\d.]+%\))?(?=\s)")
 
 
@@ -315,35 +325,63 @@ def by_function(path):
     return rows
 
 
+def told_of(numbers):
+    """Instructions and misses, as the page has them."""
+    instructions, near, far = numbers
+    if instructions < 1:
+        return "less than 1"
+    return f"{instructions:.0f}" + (f" ({near:.1f}, {far:.1f})" if near >= 0.05 or far >= 0.05 else "")
+
+
+def by_part(rows, updates):
+    """The events of all for an update, and of each part: {part: numbers}."""
+    parts = {}
+    for function, numbers in rows:
+        part = "all" if function == ALL else next((PARTS[it] for it in PARTS if re.search(it, function)), "the rest")
+        parts[part] = [a + b / updates for a, b in zip(parts.get(part, [0, 0, 0]), numbers, strict=True)]
+    return parts
+
+
+def tell_instructions(args, name, lines):
+    """Prints the instructions of a session for a vehicle and step, by function and part, and keeps those of parts."""
+    with tempfile.TemporaryDirectory() as folder:
+        found, updates = profiled(args.program, lines, args.before, args.steps, folder)
+        rows = by_function(found)
+    for function, numbers in rows:
+        instructions, near, far = (number / updates for number in numbers)
+        if instructions >= args.least:
+            print(f"  {name:<12} {instructions:7.1f} ({near:.2f}, {far:.2f})  {function}", flush=True)
+    for part, numbers in by_part(rows, updates).items():
+        print(f"  {name:<12} {told_of(numbers)}: {part}", flush=True)
+        keep_result(args, "instructions", part, {COLUMNS.get(name, name): told_of(numbers)})
+
+
 def main_instructions(argv: list[str]) -> int | None:
-    """Instructions for a vehicle and step, by function, and reads that miss caches.
+    """Instructions for a vehicle and step, by part and function, and reads that miss caches.
 
     Takes minutes; needs valgrind.
 
-    Valgrind's callgrind runs the program, some fifty times slower. The sessions are those of `steps`. Steps before
-    those that are counted: --before (200) after what a session begins with, the last 32 of them with the caches. In 32
-    steps (--steps) each vehicle makes its draws once. Functions with fewer instructions than --least (1) are left out.
-    What was counted is the same for each run, however busy the machine is.
+    Valgrind's callgrind runs the program, some fifty times slower. The sessions are those of `steps`, or with --session
+    the lines of a file with a load and vehicles, as streetsim-import writes it. Steps before those that are counted:
+    --before (200) after what a session begins with, the last 32 of them with the caches. In 32 steps (--steps) each
+    vehicle makes its draws once. Functions with fewer instructions than --least (1) are left out. What was counted is
+    the same for each run, however busy the machine is.
     """
     parser = shared.parser_of(main_instructions)
     shared.add_some(parser, "--only", SESSIONS, ("ring 0.3", "grid 20000", "grid 100000"))
+    parser.add_argument("--session", type=shared.whole_path, metavar="FILE", help="these lines, and no other session")
+    parser.add_argument("--name", default="session", help="what --session is called, in the table with --put")
     parser.add_argument("--before", type=int, default=200)
     parser.add_argument("--steps", type=int, default=32)
     parser.add_argument("--least", type=float, default=1.0)
     add_put(parser)
     args = parser.parse_args(argv)
     print("instructions a vehicle and step (reads that miss 32 KB, and 1 MB)")
+    if args.session:
+        return tell_instructions(args, args.name, args.session.read_text(encoding="utf-8").splitlines())
     for name in args.only:
-        with tempfile.TemporaryDirectory() as folder:
-            found, updates = profiled(args.program, SESSIONS[name]()[0], args.before, args.steps, folder)
-            rows = by_function(found)
-        for function, numbers in rows:
-            instructions, near, far = (number / updates for number in numbers)
-            if instructions >= args.least:
-                print(f"  {name:<12} {instructions:7.1f} ({near:.2f}, {far:.2f})  {function}", flush=True)
-            if function == ALL:
-                told = f"{instructions:.0f} ({near:.1f}, {far:.1f})"
-                keep_result(args, "instructions", "all", {COLUMNS.get(name, name): told})
+        tell_instructions(args, name, SESSIONS[name]()[0])
+    return None
 
 
 LINKS, LENGTH, VEHICLES = 70, 200, 2_400

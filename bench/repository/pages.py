@@ -199,9 +199,9 @@ GREENS, LONE = "### Permissive greens", "### Giving way without a light"
 ROUTERS = "free flow (duarouter),streetsim-route"
 TABLES = (
     Table("unseen", CLOSENESS, KINDS, "unseen", "38885,10463,25092 --rows unseen", 20),
-    Table("closeness", CLOSENESS, CLOSE, "closeness", "--seeds 1-5 --rows closeness", 20),
-    Table("sweep", CLOSENESS, LOADS, "sweep", "74220 --rows sweep", 15),
-    Table("drawn-rows", CLOSENESS, DRAWN, "drawn-rows", "10857 --rows drawn-rows", 4),
+    Table("closeness", CLOSENESS, CLOSE, "closeness", "--seeds 1-2 --rows closeness", 10),
+    Table("sweep", CLOSENESS, LOADS, "sweep", "74220 --runs 1 --levels 0.5,0.7,0.95 --rows sweep", 15),
+    Table("drawn-rows", CLOSENESS, DRAWN, "drawn-rows", "10857 --runs 1 --rows drawn-rows", 2),
     Table("doubts", CLOSENESS, RIGHT, "doubts", "", 1),
     Table("shared-lanes", CLOSENESS, GREENS, "shared-lanes", "--seeds 1-1", 4),
     Table("cross", CLOSENESS, GREENS, "cross", "", 5),

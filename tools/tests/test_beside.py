@@ -61,12 +61,14 @@ class Sides(Case):
 
 class Doubts(Case):
     def test_reasons_are_told_apart(self):
-        full, gives_way, rescued, other = REASONS
+        full, gives_way, gaps, rescued, other = REASONS
         streets = "1 street that gives way without a light is nearly full, for 9 passages: most of all a, b"
         self.assertEqual(reasons(""), set())
         self.assertEqual(reasons(FULL + PLACES), {full})
         self.assertEqual(reasons(f"3 rescues of 9 vehicles; {streets}; {FULL}{PLACES}"), {full, gives_way, rescued})
         self.assertEqual(reasons("routes are 12 % longer here"), {other})
+        queues = "queues that wait for gaps at lights did not end, for 9 passages of 9 vehicles, and may be other"
+        self.assertEqual(reasons(f"{queues}; doubted most of all: a, at J, 0:00 to 0:30: v/c 1.02 (queue)"), {gaps})
 
 
 LIGHT = Program("c", 0, ((37, "GGrr"), (3, "yyrr"), (37, "rrGg"), (3, "rryy")), frozenset({0, 1}))

@@ -107,7 +107,8 @@ class Beside(Case):
         self.tool("report", out, "-o", page)
         first = page.read_text().partition('id="junctions"')[0]
         self.assertIn('<p class="verdict">Not sure: here ', first)
-        self.assertIn("Why it is not sure: works on A1A2w", first)
+        why = first.partition("Why it is not sure: ")[2].partition("</p>")[0]
+        self.assertIn("Doubted so: works on the street from the west at Cross 2 / Ring Street", why)
 
     def test_a_plan_of_a_search_that_is_not_to_be_trusted(self):
         """In SUMO it is better; who runs it, and who reads the page, is told why it is doubted, and what is far from

@@ -34,7 +34,8 @@ class Words(unittest.TestCase):
         ranked = worst_first([LEFT, replace(LEFT, size=0.9), *others, works])
         self.assertEqual([one.edge for one in ranked], ["a", "a", "d", "c", "e"])
         told = places_told(ranked, self.mapping)
-        self.assertTrue(told.startswith("doubted most of all: works on a, 0:00 to 1:00: demand 1.00 of what the"))
+        place = "works on the street from the west at Junction B (a), 0:00 to 1:00"
+        self.assertTrue(told.startswith(f"doubted most of all: {place}: demand 1.00 of what the"), told)
         self.assertIn("at Junction B, 7:00 to 7:15: demand 1.07 of what passes (delay, letter and queue)", told)
         self.assertTrue(told.endswith("; and at 2 other places"))
         self.assertEqual(places_told([], self.mapping), "")

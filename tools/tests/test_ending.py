@@ -88,7 +88,8 @@ class Endings(Case):
             'response="01"/></junction>',
         )
         flows = "".join(
-            f'<flow id="{name}" begin="0" end="300" period="7"><route edges="{name} c"/></flow>' for name in "ab"
+            f'<flow id="{name}" begin="0" end="540" period="{seconds}"><route edges="{name} c"/></flow>'
+            for name, seconds in (("a", 4), ("b", 15))
         )
         outputs = (run := self.folder / "r.jsonl", "--map", self.folder / "m.json")
         self.tool(
@@ -96,9 +97,9 @@ class Endings(Case):
             "-o", *outputs,
         )
         words = (run, *outputs[1:], "--program", PROGRAM, "--out", self.folder / "out")
-        for more in ((), ("--until", 600)):
+        for more in ((), ("--until", 700)):
             told = self.tool("run", *words, *more)[0]
-            self.assertIn("86 vehicles, 86 arrived", told)
+            self.assertIn("171 vehicles, 171 arrived", told)
             self.assertIn("1 street that gives way without a light is nearly full", told)
             self.assertEqual("all have arrived" in told, not more)
 

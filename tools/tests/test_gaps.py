@@ -15,13 +15,11 @@ from streetsim.observe.giving_way_gaps import (
     CLOSE_S, MOST_SEEN, PATIENCE_S, UNSEEN, GapCounts, be_patient, followings, gap_lines, mark, phases_of_reds,
     red_seconds, slow_down, standing_seconds, stands_of,
 )
-from streetsim.sumo.conflicts import (
-    AFTER_STOP, CROSSING, EQUALS, JOINING, PACES, foes, foes_by_movement, turns_by_movement,
-)  # fmt: skip
+from streetsim.sumo.conflicts import AFTER_STOP, CROSSING, EQUALS, JOINING, foes, foes_by_movement, turns_by_movement
 from streetsim.sumo.driving import Driving
 from streetsim.sumo.greens import passing_here
 from streetsim.sumo.import_files import convert
-from streetsim.sumo.net import MAJOR, MINOR, STOPS, NetConnection
+from streetsim.sumo.net import MINOR, NetConnection
 from streetsim.sumo.network import Options
 
 
@@ -151,7 +149,7 @@ class Reds(unittest.TestCase):
     def test_as_many_join_after_a_stop_as_in_sumo(self):
         """Vehicles an hour of a queue at a lone stop sign of SUMO 1.15, by those of the stream."""
         draws, end = Random(1), 20 * 3600
-        waiting = GivingWay(1, ((2, 0, 1),), (foe(AFTER_STOP),), PACES[STOPS])
+        waiting = GivingWay(1, ((2, 0, 1),), (foe(AFTER_STOP),), Pace(2, 4.15))
         queue = [float(second) for second in range(0, end, 10)]
         for hourly, joining in {100: 275, 200: 183, 400: 130, 600: 109}.items():
             stream = sorted(draws.uniform(0, end) for _ in range(20 * hourly))
@@ -189,24 +187,6 @@ class Reds(unittest.TestCase):
 
 
 class Conflicts(unittest.TestCase):
-    def gap(self, state, other, target="n"):
-        """The gap before one who comes from w, for one of a state who comes from s and goes to n."""
-        links = [SimpleNamespace(lanes=(0,), speed=13.89), SimpleNamespace(lanes=(0,), speed=13.89)]
-        network = SimpleNamespace(
-            place_of={("w", 0): (0, 0)}, links_of={"w": [0], "n": [1], "e": [1]}, links=links, rings=[]
-        )
-        crossing = NetConnection("s", "n", 0, 0, None, 0, state), NetConnection("w", target, 0, 0, None, 0, other)
-        [found] = foes(*crossing, network).values()
-        return found.gap
-
-    def test_who_has_to_stop_waits_longer_before_those_who_give_way_too(self):
-        # 3 s before one who goes first; 6 s more before one who stops too, or who turns off a main street, as these
-        # take other gaps than in the round before. None more to join.
-        seconds = [self.gap(STOPS, other, "e").seconds for other in (MAJOR, STOPS, MINOR)]
-        self.assertEqual(seconds, [3.0, 9.0, 9.0])
-        self.assertEqual(self.gap(STOPS, STOPS), self.gap(STOPS, MAJOR))
-        self.assertEqual(self.gap(MINOR, MINOR, "e").seconds, CROSSING.seconds)
-
     def test_turns_that_sumo_has_not_go_first_too(self):
         """Two lanes of a main street are one link, so those who turn left leave both: who waits sees them all."""
         lanes = (("w", (0, 1)), ("n", (0,)))

@@ -106,9 +106,15 @@ class Networks(Case):
     def test_a_street_with_fewer_cells_has_room_in_the_buffers_before_it(self):
         edges = [("a", "A", "B", [lane("a", 0)]), ("b", "B", "C", [lane("b", 0, 300.0, 30 / 3.6)])]
         network, *_ = self.network(net(edges, [("a", 0, "b", 0, "")]))
-        usual, street = Options().buffer, network.links[1]
-        self.assertEqual(network.buffers, [usual, usual + 40 - street.cells, usual])
+        usual, street, passing = Options().buffer, network.links[1], network.residences[1] + 1
+        self.assertEqual(network.buffers, [usual, passing + 40 - street.cells, usual])
         self.assertEqual([node[2] for node in network.load_command()["nodes"]], network.buffers)
+
+    def test_nobody_stands_where_a_street_goes_on_as_another_one(self):
+        """Its vehicles stay there for a second each."""
+        edges = [("a", "A", "B", [lane("a", 0)]), ("b", "B", "C", [lane("b", 0)])]
+        network, *_ = self.network(net(edges, [("a", 0, "b", 0, "")]))
+        self.assertEqual((network.residences[1], network.buffers[1]), (1, 2))
 
     def test_what_is_not_modelled_is_named(self):
         ends = [("a", "A", "C", [lane("a", 0)]), ("b", "B", "C", [lane("b", 0)]), ("c", "C", "D", [lane("c", 0)])]

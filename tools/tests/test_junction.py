@@ -158,6 +158,21 @@ class CellSlips(Case):
                 self.assertTrue(any(line.startswith(f"{place}: ") and what in line for line in lines), lines)
                 self.assertLessEqual(len(lines), 20)
 
+    def test_rates_of_an_hour_in_rows_of_a_quarter_are_told(self):
+        """916 vehicles an hour from the west, written into the row of a quarter of an hour: 3,664 an hour."""
+        def lines(text):
+            return read_layout(self.write("sheet.csv", text))[1]
+
+        usual = lines(template("cross"))
+        self.assertIn("C: 3,016 vehicles in its busiest hour", usual)
+        self.assertNotIn("give each the hour", " ".join(usual))
+        told = lines(template("cross").replace("07:00,W,24,186,19", "07:00,W,96,744,76"))
+        self.assertIn("C38: from 7:00 to 7:15 3,664 vehicles an hour come from arm W on 3 lanes", " ".join(told))
+        with_end = template("cross").replace("begin,arm,left", "begin,end,arm,left")
+        hours = re.sub(r"^07:00,(.),", r"07:00,08:00,\1,", with_end, flags=re.MULTILINE)
+        hours = re.sub(r"^07:[134].,.*\n", "", hours, flags=re.MULTILINE).replace("W,24,186", "W,240,2860")
+        self.assertNotIn("give each the hour", " ".join(lines(hours)), "an hour's own row")
+
     def test_templates_have_none(self):
         for kind in TEMPLATES:
             read_layout(self.write("sheet.csv", template(kind)))
@@ -227,6 +242,7 @@ class Command(Case):
         picture = ElementTree.parse(out / "junction.svg").getroot()
         texts = [one.text for one in picture.iter("{http://www.w3.org/2000/svg}text")]
         self.assertIn("lane 2: L, pocket of 60 m", texts)
+        self.assertIn("Legend", texts)
         self.assertIn("Plan 75 of C: cycle 75 s, offset 0 s", texts)
         self.junction(sheet, "--out", out)  # anew, into its own folder
 

@@ -15,7 +15,7 @@ from support import TOOLS, Case
 LAYERS = (
     *("base", "model", "report", "sumo", "kernel", "control", "observe"),
     *("search", "demand", "sheet", "live", "cli", "simulation", "scenario", "traci", "env"),
-    *("client", "files"),  # base's, by the names that users' programs have for them
+    *("client", "engine", "files"),  # base's, by the names that users' programs have for them
 )
 MOST_PACKAGES = 14
 MOST_ARGUMENTS = 7

@@ -4,10 +4,10 @@ import gzip
 import json
 import unittest
 
-from support import DATA, PROGRAM, Case, needs_simulator
+from support import DATA, MAP, PROGRAM, Case, needs_simulator
 from streetsim.live.facts import streets_and_areas
 from streetsim.model.folder import read_folder
-from streetsim.model.mapping import read_map
+from streetsim.model.mapping import map_from, read_map
 from streetsim.model.names import Names, read_own, wind
 from streetsim.report.player import played
 from streetsim.report.run_series import junction_name_on_path, longest_queues
@@ -64,6 +64,19 @@ class Told(Crossing):
         self.assertEqual((names.approach("n"), names.approach("i")), ("Hill Street, from the north", "from the west"))
         self.assertEqual(names.junction("M"), "Hill Street / Market Street")
         self.assertEqual((names.junction("W"), names.junction_told("W")), ("", "Junction W"))
+
+    def test_a_street_in_a_sentence(self):
+        """By its name and direction; without one by direction and next junction, over pieces that follow each other."""
+        names = self.names()
+        for edge, told in (
+            ("n", "Hill Street, from the north"), ("i", "the street from the west at Hill Street / Market Street"),
+            ("w", "the street from the east at Junction W"), ("unknown", "unknown"),
+        ):
+            self.assertEqual(names.street_told(edge), told)
+        pieces = map_from("", MAP)  # from A over B to C
+        self.assertEqual(Names(pieces).junction_ahead("a"), "B", "its light")
+        pieces.signals = []
+        self.assertEqual(Names(pieces).junction_ahead("a"), "C")
 
     def test_winds(self):
         points = {"north": (0, 9), "south-east": (5, -5), "west": (-9, 1), "east": (9, 0)}

@@ -107,8 +107,9 @@ class Samples(Case):
         words = ["run", run, "--map", mapped, "--until", 9000, "--every", 600, "--out", out, "--program", PROGRAM]
         self.tool(*words, "--rescue", 0)
         self.assertLess(len(trip_times_of(read_folder(out))), 4500)
-        self.tool(*words)
+        told, _ = self.tool(*words)
         self.assertEqual(len(trip_times_of(read_folder(out))), 4500)
+        self.assertRegex(told, r", \d+ rescues \(\d+ in (a knot|\d+ knots)\)")
 
     @needs_sumo_tools
     def test_acosta(self):

@@ -205,7 +205,7 @@ DIGITS = {
     "the map: a mark's text": section("map") + r"Junction J\d: (\d)",
     "the map: a change": section("map") + r"<polygon.*?<title>[+-](\d)",
     "how many trips": section("costs") + r"Of (\d)",
-    "a share of trips": section("costs") + r"the same vehicles (\d)",
+    "a share of trips": section("costs") + r"the same vehicles in \w+ runs together (\d)",
     "the longest delay": section("costs") + r"Longest delay: .*?, (\d+)(?= s)",
     "its vehicles": section("costs") + r"level of service [A-F], (\d)",
     "trips of a flow": section("costs") + r"<tbody>.*?<td>(\d)",

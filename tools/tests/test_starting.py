@@ -8,12 +8,13 @@ import time
 import unittest
 from contextlib import redirect_stderr
 from io import StringIO
+from pathlib import Path
 from unittest.mock import patch
 
 from support import TOOLS, Case
 from test_install import COMMANDS
 
-from streetsim.base.files import RECEIVED_SIGNALS, end_again, end_by_signal, status_of, tell_dropped
+from streetsim.base.files import RECEIVED_SIGNALS, end_again, end_by_signal, status_of, tell_dropped, whole_file
 
 # In the place of a module that all commands read: it says that it is read, and waits.
 SLOW = """import time
@@ -85,6 +86,9 @@ class Asked(Case):
         before = signal.signal(signal.SIGINT, end_by_signal)
         self.addCleanup(signal.signal, signal.SIGINT, before)
         self.addCleanup(RECEIVED_SIGNALS.clear)
+        kept = patch("streetsim.base.files.KEPT_NOTES", [])  # of tests before, in this process
+        kept.start()
+        self.addCleanup(kept.stop)
         with redirect_stderr(StringIO()) as said:
             self.assertEqual(status_of(main), 130)
         self.assertIn(": ended by Ctrl-C: nothing was written\n", said.getvalue())
@@ -96,6 +100,21 @@ class Asked(Case):
         RECEIVED_SIGNALS.clear()
         with self.assertRaisesRegex(ValueError, "wrong"):
             status_of(lambda _: int("wrong"))
+
+    def test_what_is_kept_is_told(self):
+        """A file that has taken its name is, one that is gone again is not."""
+        def main(_):
+            for name in ("there", "gone"):
+                with whole_file(f"{self.folder}/{name}") as file:
+                    file.write(name)
+            Path(self.folder, "gone").unlink()
+            signal.raise_signal(signal.SIGINT)
+
+        self.addCleanup(signal.signal, signal.SIGINT, signal.signal(signal.SIGINT, end_by_signal))
+        self.addCleanup(RECEIVED_SIGNALS.clear)
+        with redirect_stderr(StringIO()) as said, patch("streetsim.base.files.KEPT_NOTES", []):
+            self.assertEqual(status_of(main), 130)
+        self.assertEqual(said.getvalue().partition(": ")[2], f"ended by Ctrl-C: kept: {self.folder}/there\n")
 
     def test_an_end_that_got_lost_comes_again(self):
         """As where Python forgets a module's lock, and drops what is raised meanwhile, of which nothing is said. What

@@ -9,8 +9,10 @@ from streetsim.base.program import UNKNOWN_NOTE, Proof
 from streetsim.model import folder, trust
 from streetsim.model.folder import NAME, Folder
 from streetsim.model.fullness import FullLane, Fullness
+from streetsim.model.knots import KNOTTED, Rescued, knots_of, knots_told, rescues_in_knots
 from streetsim.model.mapping import TOLD_INVENTED, map_from
 from streetsim.model.runs import Line, Run
+from streetsim.observe.doubted_places import doubts_of_rescues
 
 Census = namedtuple("Census", "clock waiting")
 
@@ -31,6 +33,54 @@ class Told(unittest.TestCase):
             )
             with patch.object(folder, "proof_of_digest", {"a5": Proof.PROVED}.get):
                 self.assertEqual(Folder("out", mapping, [], 0, 0, 900, {"program": "a5"}).notes, invented)
+
+
+class Knots(unittest.TestCase):
+    """Streets a, b, c and d, one behind the other; e is far from these."""
+
+    def setUp(self):
+        names = "ABCDEFG"
+        nodes = [[name, 75 * at, 0, 1] for at, name in enumerate(names)]
+        ends = {"a": (0, 1), "b": (1, 2), "c": (2, 3), "d": (3, 4), "e": (5, 6)}
+        links = [[edge, [0], *places, 10, 5, 75.0, [[0, 0], [75, 0]]] for edge, places in ends.items()]
+        self.mapping = map_from("", {**MAP, "nodes": nodes, "links": links, "turns": [], "signals": []})
+
+    def knots(self, *rescued):
+        return knots_of([Rescued(*one) for one in rescued], self.mapping)
+
+    def test_which_rescues_are_of_one(self):
+        """Those at junctions with a street in common, at most 900 s apart, of which one is inside its junction."""
+        one, far = (600, 300, 0, True), (600, 300, 4, True)
+        (knot,) = self.knots(one, far, (1500, 1200, 1, False), (2400, 2100, 1, False))
+        self.assertEqual((knot.junctions, knot.edges, knot.rescues), (["C", "B"], {"a": 1, "b": 2}, 3))
+        self.assertEqual((knot.begin, knot.end), (300, 2400))
+        self.assertEqual(self.knots(one, (1501, 1200, 1, False)), [])
+        self.assertEqual(self.knots(one, (660, 300, 2, True)), [])
+        self.assertEqual(self.knots(one, far), [])
+
+    def test_those_who_stand_at_red_are_none(self):
+        """Whoever was rescued stood at its line; of an edge two are told as rescues, for the whole run."""
+        rescued = [Rescued(600, 300, 0, False), Rescued(660, 300, 0, False), Rescued(660, 300, 1, False)]
+        self.assertEqual(knots_of(rescued, self.mapping), [])
+        (doubt,) = doubts_of_rescues(rescued, self.mapping)
+        self.assertEqual((doubt.edge, doubt.end), ("a", 0))
+        self.assertEqual(doubt.why, "2 rescues of vehicles that stood too long")
+        self.assertEqual((knots_told([], self.mapping), rescues_in_knots([])), ("", ""))
+
+    def test_what_is_told(self):
+        """Where and when; each of its approaches is doubted while it lasts, of others those of two rescues."""
+        rescued = [Rescued(600, 300, 0, True), *3 * [Rescued(900, 600, 1, False)], *2 * [Rescued(900, 600, 4, False)]]
+        knots = knots_of(rescued, self.mapping)
+        told = knots_told(knots, self.mapping)
+        self.assertTrue(told.startswith(", 4 of them in a knot, whose vehicles kept each other from going on"), told)
+        places = "Junction C and 1 beside it, 0:05 to 0:15"
+        self.assertEqual(KNOTTED.search(f"6 rescues of 9 vehicles (who stood){told}").groups(), ("a knot", places))
+        self.assertEqual(rescues_in_knots(knots), " (4 in a knot)")
+        doubts = {one.edge: (one.begin, one.end, one.why) for one in doubts_of_rescues(rescued, self.mapping)}
+        why = "rescues in a knot, as where SUMO teleports: what is lost there is no delay of a queue"
+        self.assertEqual(doubts["a"], (300, 900, f"1 {why}"))
+        self.assertEqual(doubts["b"], (300, 900, f"3 {why}"))
+        self.assertEqual(doubts["e"], (0, 0, "2 rescues of vehicles that stood too long"))
 
 
 class Marks(unittest.TestCase):
@@ -60,9 +110,9 @@ class Marks(unittest.TestCase):
         self.assertTrue(told.endswith("most of all b, a"))
 
     def test_lanes_that_wait_for_gaps_are_full(self):
-        """Above one passage of them in five vehicles; those of the demand's full lanes are passed over that runs
+        """Above one passage of them in 20 vehicles; those of the demand's full lanes are passed over that runs
         show."""
-        self.assertEqual(list(trust.gap_doubts(300, {"a": 60})), [])
+        self.assertEqual(list(trust.gap_doubts(300, {"a": 15})), [])
         (told,) = trust.gap_doubts(300, {"a": 21, "b": 40})
         begin = "queues that wait for gaps at lights did not end, for 61 passages of 300"
         self.assertTrue(told.startswith(begin), told)

@@ -76,7 +76,7 @@ READ = {
 ASKED = (  # (text, cell, what is asked)
     ("time,end,arm,L,G,R\n07:00,07:15,O,1,2,3\n07:00,07:15,N,1,5,6\n", "C2", "'O' may be E or W"),
     ("time,end,arm,through\n7:00,8:00,N,1.234\n", "D2", "'1.234' may be 1234 or 1.234"),
-    ("time,arm,left\n07:00,N,5\n", "C2", "when the period ends is not said"),
+    ("time,arm,left\n07:00,N,5\n", "C2", "all rows begin at one time, and none says when it ends"),
     ("time,end,arm,left,through\n7:00,7:15,N,\"1,5\",2.5\n", "D2", "has a decimal comma"),
     ("time,end,arm,left,sum\n7:00,7:15,N,3,4\n", "E2", "is not the sum of its row"),
     ("arm,left\nN,3\n", "A1", "no column has times"),

@@ -1,4 +1,4 @@
-"""One word is one thing in all commands: the list of all words in CONTRIBUTING.md, which `test_word_table.py --write`
+"""One word is one thing in all commands: the list of all words in docs/options.txt, which `test_word_table.py --write`
 makes of the parsers; and words of earlier versions, which are still taken."""
 import argparse
 import re
@@ -10,9 +10,7 @@ from test_help import parsers
 
 from streetsim.base.words import Parser
 
-PAGE = TOOLS.parent / "CONTRIBUTING.md"
-TITLE = "## Words of the commands"
-SECTION = re.compile(rf"(?<={TITLE}\n\n)(.*?)(```.*?)(?=\n## |\Z)", re.DOTALL)
+LIST = TOOLS.parent / "docs/options.txt"
 SUMO = "sumo"  # whose words are those of SUMO's command line, and mean what they mean there
 AS_OF = "as in streetsim-"  # which means what the other command says
 PARTS = re.compile(r" \(|; |: |, ")
@@ -56,8 +54,8 @@ def two_things(found):
 
 
 def table():
-    """The list of the page: each word but those of SUMO's command line alone, what it is, and the words of earlier
-    versions that are this one now."""
+    """The list: each word but those of SUMO's command line alone, what it is, and the words of earlier versions that
+    are this one now."""
     old, lines = earlier_words(), []
     for word, own in sorted(words().items(), key=lambda item: item[0].lstrip("-").lower()):
         if own.keys() == {SUMO}:
@@ -65,7 +63,7 @@ def table():
         said = next((told for name, told in own.items() if not told.startswith(AS_OF)), "")
         earlier = "".join(old.get(name, "") for name in word.split(", "))
         lines.append(f"{word:<26} {thing(said)}{earlier}")
-    return "\n".join(["```text", *lines, "```"])
+    return "".join(f"{line}\n" for line in lines)
 
 
 def earlier_words():
@@ -83,10 +81,9 @@ class Words(Case):
         one, other = {"a": "a file (.xml)"}, {"b": "the seconds of it"}
         self.assertEqual(two_things({"--x": {**one, **other}}), {"--x": ["a file", "the seconds of it"]})
 
-    def test_the_page_has_them_all(self):
-        found = SECTION.search(PAGE.read_text(encoding="utf-8"))
+    def test_the_list_has_them_all(self):
         told = "other words: tools/tests/test_word_table.py --write"
-        self.assertEqual(found and found[2].strip().splitlines(), table().splitlines(), told)
+        self.assertEqual(LIST.read_text(encoding="utf-8").splitlines(), table().splitlines(), told)
 
     def test_earlier_words_are_taken_and_not_told(self):
         for name, made in commands().items():
@@ -102,7 +99,6 @@ class Words(Case):
 
 if __name__ == "__main__":
     if sys.argv[1:] == ["--write"]:
-        text = PAGE.read_text(encoding="utf-8")
-        PAGE.write_text(SECTION.sub(lambda found: f"{found[1]}{table()}\n", text, count=1), encoding="utf-8")
+        LIST.write_text(table(), encoding="utf-8")
     else:
         unittest.main()

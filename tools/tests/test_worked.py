@@ -400,6 +400,42 @@ class Crowding(unittest.TestCase):
         self.assertIn("of what the open lane passes, 150 m behind a light, in the worst hour", one.why)
         self.assertGreater(one.size, 0.9)
 
+    def test_who_turns_from_the_closed_lane_near_behind_the_works(self):
+        """Straight on goes from both lanes, to the right from the closed one alone. In SUMO those who turn wait before
+        works that end 85 m before a light: 89 of 500 vehicles, and a trip takes 472 s longer, not where they end 400 m
+        before it."""
+        def doubts(last_cell, turns, exits=((0, 0, 1), (0, 1, 1), (0, 0, 2)), closed=(0,)):
+            links = link("a", cells=100), link("b", begin=1, end=2), link("c", begin=1, end=3)
+            nodes = [[f"N{at}", 0, 0, 1] for at in range(4)]
+            found = [turn(source, lane, to) for source, lane, to in exits]
+            mapping = Map(nodes=nodes, links=[*links], turns=found, signals=[], cars=[], options={}, warnings=[])
+            run = run_of([[0, 2]] * turns + [[0, 1]] * 100)
+            for at, line in enumerate(run.enters):
+                line.command["depart"] = at
+            works = [Closure(0, lane, last_cell - 10, last_cell, 0, 900) for lane in closed]
+            return [(one.vehicles, one.why) for one in crowded_works(run, mapping, works) if "turn off" in one.why]
+
+        why = "30 turn off 82 m behind them from the closed lane, and wait before the works in SUMO"
+        self.assertEqual(doubts(88, 30), [(30, why)])
+        self.assertEqual(doubts(40, 30), [], "445 m before the junction")
+        self.assertEqual(doubts(88, 0), [], "nobody turns")
+        self.assertEqual(doubts(88, 30, [(0, 0, 1), (0, 1, 1), (0, 0, 2), (0, 1, 2)]), [], "the other lane leads there")
+        self.assertEqual(doubts(88, 30, closed=(0, 1)), [], "no lane is open, so nobody drives past the works")
+
+    def test_who_turns_behind_a_piece_at_which_a_pocket_begins(self):
+        """The closed lane alone leads to the pocket from which one turns; 60 m lie between."""
+        links = link("a", cells=40), link("p", 3, cells=8, begin=1, end=2), link("b", begin=2, end=3)
+        links += (link("c", begin=2, end=4),)
+        turns = [turn(0, 0, 1), MapTurn(0, 1, 1, 1, None, 0, False), MapTurn(0, 1, 1, 2, None, 0, False)]
+        turns += [turn(1, 0, 2), turn(1, 1, 2), MapTurn(1, 2, 3, 0, None, 0, False)]
+        nodes = [[f"N{at}", 0, 0, 1] for at in range(5)]
+        mapping = Map(nodes=nodes, links=[*links], turns=turns, signals=[], cars=[], options={}, warnings=[])
+        run = run_of([[0, 1, 3]] * 40 + [[0, 1, 2]] * 40)
+        for closed, count in ((1, 40), (0, 0)):
+            found = crowded_works(run, mapping, [Closure(0, closed, 20, 29, 0, 900)])
+            self.assertEqual([one.vehicles for one in found], [count] if count else [])
+            self.assertTrue(all("turn off 135 m behind them" in one.why for one in found))
+
     def test_a_close_of_the_run_that_nothing_reopens(self):
         """It counts up to the last departure (1,000 in 1,799 s), and is told of where other works are asked for."""
         mapping, run = mapped(link("a"), link("b")), run_of([[0]] * 1000)

@@ -228,7 +228,9 @@ class Works(Case):
         why = "works on a_0 begin at 900 s, and met nobody{}, as all vehicles had arrived by then"
         told = self.tool(*last, "a_0:100-200:900-1100")[0].splitlines()
         self.assertEqual(told[1:], [f"not to be trusted: {why.format('')}"])
-        self.assertEqual(len(self.tool(*last, "a_0:100-200:300-1100")[0].splitlines()), 1)
+        told = self.tool(*last, "a_0:100-200:300-1100")[0].splitlines()
+        self.assertRegex(told[-1], "^not to be trusted: works on a: .. turn off 98 m behind them from the closed lane")
+        self.assertNotIn("met nobody", told[-1])
         text = (
             'run = "run.jsonl"\nmap = "map.json"\nseeds = "1-2"\n'
             'departures = "listed"\nuntil = 1200\n[variant.given]\n[variant.late]\n'

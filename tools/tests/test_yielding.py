@@ -12,7 +12,6 @@ from streetsim.control.settings import Settings
 from streetsim.control.yielding import AFTER_STAND, SNEAK_SECONDS, YieldingTurns
 from streetsim.control.yielding_fullness import LitFullness
 from streetsim.control.yielding_plans import held_back, with_held_back
-from streetsim.control.yielding_ways import NO_CELL
 from streetsim.kernel.loop import Observer, own_line
 from streetsim.kernel.seconds import Block, Vehicles
 from streetsim.model.mapping import Map, MapLink, MapTurn, read_map
@@ -23,7 +22,7 @@ from streetsim.sumo.greens import headway
 
 CELLS = 40  # of each link, of which 2 are driven in a second
 LEFT, STRAIGHT, RIGHT = (0, 0, 3), (1, 0, 4), (2, 0, 5)  # turns at node 0; left gives way to straight, right to left
-NODES = [[0, 3, 4], [1, 3, 4]]  # number, seconds in the buffer, vehicles that it holds
+NODES = [[0, 3, 4], [1, 3, 4], [2, 3, 4]]  # number, seconds in the buffer, vehicles that it holds
 GREEN, RED = 40, 20  # seconds of the cycle
 
 
@@ -41,6 +40,15 @@ def open_mapping(signs, yields=((0, 1, False),), straight=STRAIGHT):
     made = mapping(yields, straight=straight)
     ways = replace(made.lit_ways[0], signs=signs)
     return replace(made, lit_ways=[], open_ways=[ways], signals=[])
+
+
+def short_mapping():
+    """The same light, whose street straight on is a pocket of 4 cells behind another street."""
+    made = mapping()
+    links = [*made.links, replace(made.links[1], edge="e6", end=2)]
+    links[1] = replace(links[1], begin=2, cells=4)
+    turns = [*made.turns, MapTurn(6, 0, 1, 0, None, None, False)]
+    return replace(made, nodes=[*made.nodes, ("n2", 0, 0, 3)], links=links, turns=turns)
 
 
 class Scene:
@@ -111,11 +119,15 @@ class WithoutALight(unittest.TestCase):
         self.assertFalse(self.goes("mMM", (1, 0), (4, 2), [*range(5, 200)]))
 
     def test_who_stands_at_its_line_is_in_the_way_of_those_who_give_way_to_it(self):
-        """Though it waits itself."""
-        scene = Scene([[0, 3], [1, 4], [2, 5]], open_mapping("mmM", ((0, 1, False), (1, 2, False))))
-        lanes = (0, {0: (1, 0)}), (1, {1: (1, 0)}), (2, {2: (3, 2)})
-        self.assertFalse([clock for clock in range(5, 130) if LEFT in scene.second(clock, *lanes)])
-        self.assertIn(LEFT, scene.second(131, (0, {0: (1, 0)}), (2, {2: (3, 2)})))
+        """Though it waits itself; after 40 s, or 72 at a stop sign, one goes first, and the other one stays for 4 s.
+        Who is seen first has stood for 3 s."""
+        for sign, waited in (("m", 42), ("s", 74)):
+            scene = Scene([[0, 3], [1, 4], [2, 5]], open_mapping(f"{sign}{sign}M", ((0, 1, False), (1, 2, False))))
+            lanes = (0, {0: (1, 0)}), (1, {1: (1, 0)}), (2, {2: (3, 2)})
+            first = next(clock for clock in range(5, 130) if LEFT in scene.second(clock, *lanes))
+            self.assertEqual(first, waited)
+            for later, goes in ((3, False), (4, True)):
+                self.assertEqual(STRAIGHT in scene.second(waited + later, (1, {1: (1, 0)})), goes)
 
     def test_who_has_to_stop_does_so_though_nobody_comes(self):
         for sign in "sw":
@@ -153,6 +165,13 @@ class Gaps(unittest.TestCase):
         red = Scene([[0, 3], [1, 4]], mapping(), green=(LEFT,))
         self.assertIn(LEFT, red.second(5, (0, {0: (1, 0)}), (1, {1: (1, 0)})))
         self.assertIn(LEFT, Scene([[0, 3]], mapping()).second(5, (0, {0: (1, 0)})))
+
+    def test_nobody_waits_for_one_that_is_held_before_a_pocket(self):
+        """Who may go on from the buffer before it comes there; one that could have gone for 3 s is held, and who is
+        behind it too."""
+        for ago, goes in ((1, False), (4, False), (5, True)):
+            scene = Scene([[0, 3], [6, 1, 4]], short_mapping())
+            self.assertEqual(LEFT in scene.second(9, (0, {0: (1, 0)}), (6, {}, [1]), ago=ago), goes, ago)
 
     def test_who_passed_in_the_last_second_is_in_the_way(self):
         """One that passes its line in the second before a clock may go on 3 - 1 seconds later."""
@@ -225,24 +244,24 @@ class HeldBack(unittest.TestCase):
 
 
 class Full(unittest.TestCase):
-    def test_a_lane_with_somebody_first_for_nine_tenths(self):
+    def test_a_lane_with_somebody_first_for_seven_tenths(self):
         """Of a quarter of an hour in which its turns meet others half the time; who passes is counted once."""
-        for busy, passages in ((9, 45), (8, 0)):
+        for busy, passages in ((7, 45), (6, 0)):
             fullness = LitFullness(2, 0)
             for clock in range(900):
                 meets = clock % 20 < 10
-                fronts = [(1, clock // 20)] if meets and clock % 10 < busy else []
-                fullness.note_fronts(clock, np.array([NO_CELL, 5 if meets else NO_CELL]), fronts)
+                slots, cars = ([1], [clock // 20]) if meets and clock % 10 < busy else ([], [])
+                fullness.note_fronts(clock, np.array([False, meets]), np.array(slots, int), np.array(cars, int))
                 fullness.note_seconds(1)
             fullness.end_part()
             self.assertEqual(fullness.passages.get(1, 0), passages)
 
-    def test_a_lane_without_a_light_with_somebody_first_for_half_of_the_time(self):
-        for busy, passages in ((5, 90), (4, 0)):
+    def test_a_lane_without_a_light_with_somebody_first_for_more_than_half_of_the_time(self):
+        for busy, passages in ((6, 90), (5, 0)):
             fullness = LitFullness(2, 0, [1])
             for clock in range(900):
-                fronts = [(1, clock // 10)] if clock % 10 < busy else []
-                fullness.note_fronts(clock, np.array([NO_CELL, 5]), fronts)
+                slots, cars = ([1], [clock // 10]) if clock % 10 < busy else ([], [])
+                fullness.note_fronts(clock, np.array([False, True]), np.array(slots, int), np.array(cars, int))
                 fullness.note_seconds(1)
             fullness.end_part()
             self.assertEqual((fullness.crowded[1], fullness.passages[1]), (passages, 0))
@@ -253,7 +272,7 @@ class Record(Observer):
 
     def begin(self, kernel):
         """None yet."""
-        self.rows = []
+        self.rows, kernel.keeps_gaps = [], True
 
     def see(self, seconds):
         """Takes some seconds."""

@@ -1,5 +1,5 @@
-//! Who makes the steps of the advances that an engine serves for another: threads that are started for each part of a step, or workers
-//! that stay, and wait for each other. The sessions of `street_line` have a crew of either kind.
+//! Who makes the steps of the advances that an engine serves for another: threads that are started for each part of a step, workers
+//! that stay, and wait for each other, or the thread that calls alone. The sessions of `street_line` have a crew of one of these.
 use crate::StepSink;
 use crate::engine::{Engine, Unwatched};
 use std::sync::Wait;
@@ -85,5 +85,25 @@ impl<'a, R: Threads + Wait + Sync> Crew for StayingCrew<'a, R> {
         command: &Command,
     ) -> (Reply, Outcome, S) {
         engine.apply_recording_by_team(self.rt, sink, command)
+    }
+}
+
+/// The thread that calls, alone: it starts no thread and asks for no runtime, so a program in another language may call it.
+#[derive(Drop)]
+pub struct AloneCrew {}
+
+impl Crew for AloneCrew {
+    ghost use Rattle.std.specs.Prelude.{⊤};
+
+    ghost ready = { ⊤ };
+
+    /// By [`Engine::apply_recording_alone`].
+    fn apply<S: StepSink + Drop>(
+        &self,
+        engine: &mut Engine<Unwatched>,
+        sink: S,
+        command: &Command,
+    ) -> (Reply, Outcome, S) {
+        engine.apply_recording_alone(sink, command)
     }
 }

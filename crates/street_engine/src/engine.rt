@@ -8,7 +8,7 @@ ghost use Rattle.street_base.specs.Prelude.{last_clock, most_workers, refusal, s
 ghost use Rattle.street_engine.specs.Prelude.{StandsFor, Serves, ServesAll, KeepsSink, StreetsGo, ToldOf, ToldSteps};
 
 use crate::clock_commands::advance_refusal;
-use crate::crews::{started_steps, staying_steps};
+use crate::crews::{own_steps, started_steps, staying_steps};
 use crate::{StepSink, Streets, Unrecorded, commands};
 use std::alloc::{AllocError, Global};
 use std::marker::Model;
@@ -194,6 +194,34 @@ impl<G: Gate + Sync + Drop> Engine<G> {
             ensures { (result.2 ≤ count) × (result.0.clock ≡ streets.clock + result.2) × StreetsGo (steps result.2) streets result.0
                 × ToldOf S.notes streets result.2 sink result.1 }
         { staying_steps(rt, gate, alloc, streets, sink, count) };
+        commands::apply(
+            &make,
+            self.alloc,
+            self.workers as usize,
+            &mut self.streets,
+            sink,
+            command,
+        )
+    }
+
+    /// As [`apply_recording`](Self::apply_recording), and the thread that calls makes each advance alone: it starts no thread and has no
+    /// runtime, so that a caller that is not Rattle may call it.
+    pub fn apply_recording_alone<S: StepSink + Drop>(
+        &mut self,
+        sink: S,
+        command: &Command,
+    ) -> (Reply, Outcome, S)
+        ensures serves { Serves self.old command.now result.0 result.1 self.new }
+        ensures refused { (refusal : Refusal) → result.0 ≡ Refused refusal → self.new ≡ self.old }
+        ensures told { ToldSteps S.notes self.old command.now result.0 sink result.2 }
+        ensures untold { KeepsSink command.now result.0 sink result.2 }
+    {
+        let gate = &self.gate;
+        let make = |streets: Streets, sink: S, count: u64| -> (Streets, S, u64)
+            requires { (count ≤ 16) × (streets.clock + count ≤ last_clock) }
+            ensures { (result.2 ≤ count) × (result.0.clock ≡ streets.clock + result.2) × StreetsGo (steps result.2) streets result.0
+                × ToldOf S.notes streets result.2 sink result.1 }
+        { own_steps(gate, streets, sink, count) };
         commands::apply(
             &make,
             self.alloc,

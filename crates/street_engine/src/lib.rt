@@ -25,7 +25,7 @@ mod streets;
 mod teams;
 mod vehicle_commands;
 
-pub use crew::{Crew, StartedCrew, StayingCrew};
+pub use crew::{AloneCrew, Crew, StartedCrew, StayingCrew};
 pub use engine::{Engine, Unwatched};
 pub use sinks::{StepSink, Unrecorded};
 pub use sites::DetectorSite;

@@ -8,8 +8,8 @@ ghost use Rattle.street_line.specs.Runs.{Goes};
 use std::alloc::Global;
 use std::io;
 use std::thread::Threads;
-use street_engine::{Engine, StartedCrew, Unwatched};
-use street_line::{Counted, EngineSession, run_engine};
+use street_engine::{Engine, StartedCrew, Unrecorded, Unwatched};
+use street_line::{Counted, Session, run_session};
 
 /// What is answered to the lines of a text where nothing is loaded at first: what the machine says to them, whatever the
 /// number of workers, 1 to 64, and from how many vehicles on they share a step.
@@ -29,8 +29,9 @@ pub fn answers<R: Threads + Sync>(
 {
     let mut reader = Counted::new(lines);
     let mut writer = Counted::new(Vec::new(alloc));
-    let mut session = EngineSession::new(StartedCrew::new(rt), Engine::new(alloc, workers, gate));
-    match run_engine(alloc, &mut session, &mut reader, &mut writer) {
+    let engine = Engine::new(alloc, workers, gate);
+    let mut session = Session::new(StartedCrew::new(rt), engine, Unrecorded);
+    match run_session(alloc, &mut session, &mut reader, &mut writer) {
         Ok(_tally) => Ok(writer.into_inner()),
         Err(_fault) => Err(io::Error::from(io::ErrorKind::OutOfMemory)),
     }

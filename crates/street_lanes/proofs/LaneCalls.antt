@@ -11,7 +11,7 @@ use Rattle.street_yard.proofs.FallingLists.{IsLane-agree, cells-agree}
 use Rattle.street_lanes.specs.declared.lanes.Extent.{Extent}
 use Rattle.street_lanes.specs.Prelude.{LaneView, IsLaneOf, waiting_of, queued_of, AreInOrder, without_front, Lanes, GoesIf, GoesAt, cells_list, buffer_list, waiting_list, cars_on, HasShortPlan, AreShort, SameList, Joins, Enters, LetsGo, Departs}
 use Rattle.street_lanes.specs.declared.lanes.Lanes.TheInside.{Inside}
-use Rattle.street_lanes.specs.Inside.{length_at, closed_at, lane_in, view_of, seen, IsSound, IsLaidOut}
+use Rattle.street_lanes.specs.Inside.{length_at, closed_at, lane_in, view_of, seen, AreLaidOut, IsLaidOut}
 use Rattle.street_lanes.proofs.Access.{in-extents, in-closures}
 use Rattle.street_lanes.proofs.Cars.{cars-kept}
 use Rattle.street_base.proofs.CoverLemmas.{free-uncovered}
@@ -73,7 +73,7 @@ open-is y closures extents n sound within list closed answer at is answers =
     (answers (length_at extents n) (sound.some n within) (subst (λ l. IsLane y l (length_at extents n)) (sym at) (sound.falls n within)) (subst (λ c. IsWithin c (length_at extents n)) (sym is) (sound.within n within))))
 
 -- the same of the fields of lanes that a caller sees
-pub open-answer : (x : Inside) (v : Lanes) → seen x ≡ v → (n : ℕ) → n < length v.lanes → IsSound x → (list : ℕ) (closed : List Stretch) (answer : Bool) → list ≡ cells_list n → closed ≡ get_or x.closures.items n closed
+pub open-answer : (x : Inside) (v : Lanes) → seen x ≡ v → (n : ℕ) → n < length v.lanes → AreLaidOut x → (list : ℕ) (closed : List Stretch) (answer : Bool) → list ≡ cells_list n → closed ≡ get_or x.closures.items n closed
     → ((count : ℕ) → 0 < count → IsLane x.yard list count → IsWithin closed count → answer ≡ is_free (record { cells = cells_at x.yard list count; closed = closed_marks closed count }) 0)
     → answer ≡ is_free (lane_in x.yard x.closures.items x.extents.items n).track 0
 open-answer x v is n h sound list closed answer at read answers =

@@ -8,13 +8,13 @@ use Rattle.street_yard.proofs.Thirds.{third-sum}
 use Rattle.street_lanes.specs.declared.lanes.Lanes.TheInside.{Inside}
 use Rattle.street_lanes.specs.declared.lanes.Extent.{Extent}
 use Rattle.street_lanes.specs.Prelude.{LaneStands, waiting_of, queued_of, Lanes, lane_of, place_at, no_place, cells_list, buffer_list, waiting_list, cars_on, LanesStand}
-use Rattle.street_lanes.specs.Inside.{length_at, seen, IsSound}
+use Rattle.street_lanes.specs.Inside.{length_at, seen, AreLaidOut}
 use Rattle.street_lanes.proofs.Access.{lanes-are, in-extents, stands-in}
 use Rattle.street_lanes.proofs.Cars.{cars-length}
 use Rattle.street_lanes.proofs.CellCount.{cells-number}
 use Rattle.street_lanes.proofs.WaitingOrder.{in_order-length}
 
-module _ (x : Inside) (v : Lanes) (is : seen x ≡ v) (sound : IsSound x) (whole : IsWhole x.yard) where
+module _ (x : Inside) (v : Lanes) (is : seen x ≡ v) (sound : AreLaidOut x) (whole : IsWhole x.yard) where
   -- ---- one lane
 
   module _ (n : ℕ) (h : n < length v.lanes) (s : LaneState) (stands : LaneStands (lane_of v n) s) where

@@ -12,7 +12,7 @@ use Rattle.street_lanes.specs.Prelude.{IsDeserted, HasNobody, HasNobodyInCells, 
 use Rattle.street_yard.specs.Kinds.{class_of}
 use Rattle.street_yard.specs.declared.names.ListKind.{ListKind}
 use Rattle.street_yard.specs.declared.names.ListKind.TheVariants.{Cells, Buffer, Waiting}
-use Rattle.street_lanes.specs.Inside.{length_at, lane_in, seen, IsSound}
+use Rattle.street_lanes.specs.Inside.{length_at, lane_in, seen, AreLaidOut}
 use Rattle.street_lanes.proofs.Access.{lanes-are, in-extents, lane-is}
 use Rattle.street_lanes.proofs.Cars.{cars-length}
 use Rattle.street_lanes.proofs.Front.{nobody-listed}
@@ -38,7 +38,7 @@ nobody-stands y list count whole lane deserted = by (list_at y list) refl
         let bad : ◌≡◌ {A = Option Vehicle} (Some stands.0) None = sym stands.1 ∙ deserted (cell_at y k) in
         absurd (cc)
 
-module _ (x : Inside) (v : Lanes) (is : seen x ≡ v) (sound : IsSound x) where
+module _ (x : Inside) (v : Lanes) (is : seen x ≡ v) (sound : AreLaidOut x) where
   pub lanes-counted : lanes_in x.yard ≡ length v.lanes
   lanes-counted = let are = lanes-are x v is in let three = sound.three_each in omega arith
 

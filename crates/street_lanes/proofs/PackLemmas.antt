@@ -141,7 +141,7 @@ cars-held f (x ∷ xs) = ap (cons_option (f x)) (cars-held f xs)
 
 -- a list that holds the same stands for the same
 module _ (old new : Yard) (list : ℕ) (held : held_on new list ≡ held_on old list) where
-  cars-same : cars_on new list ≡ cars_on old list
+  pub cars-same : cars_on new list ≡ cars_on old list
   cars-same = cars-held (car_of new) (list_at new list) ∙ ap (filter_map (λ o. o)) held ∙ sym (cars-held (car_of old) (list_at old list))
 
   seen-same : (z : ℕ) → seen_at new list z ≡ seen_at old list z

@@ -20,7 +20,7 @@ use Rattle.street_lanes.specs.declared.lanes.Extent.{Extent}
 use Rattle.street_lanes.specs.declared.lanes.Lanes.TheInside.{Inside}
 use Rattle.street_lanes.specs.Prelude.{LaneStands, IsLaneOf, waiting_of, queued_of, Lanes, lane_of, place_at, cells_list, buffer_list, waiting_list, IsSought, IsFound, told_in_cell, told_in_buffer, told_waiting, vehicle_on}
 use Rattle.street_lanes.specs.Search.{IsListOfLane}
-use Rattle.street_lanes.specs.Inside.{length_at, lane_in, seen, IsLaidOut, IsSound}
+use Rattle.street_lanes.specs.Inside.{length_at, lane_in, seen, IsLaidOut, AreLaidOut}
 use Rattle.street_lanes.proofs.Without.{in_queue, in_wait, cars, cars-split, numbered, counted, at-least, cell-counted, in_order-sum}
 use Rattle.street_lanes.proofs.LaneWithout.{none-there}
 use Rattle.street_lanes.proofs.Access.{in-extents, stands-in}
@@ -266,7 +266,7 @@ module _ (number : ℕ) (s : LaneState) where
 
 -- ---- as a method tells it
 
-module _ (x : Inside) (v : Lanes) (is : seen x ≡ v) (sound : IsSound x) (n : ℕ) (h : n < length v.lanes) (whole : IsWhole x.yard) (net : NetSpec) (number : ℕ) where
+module _ (x : Inside) (v : Lanes) (is : seen x ≡ v) (sound : AreLaidOut x) (n : ℕ) (h : n < length v.lanes) (whole : IsWhole x.yard) (net : NetSpec) (number : ℕ) where
   -- what is answered is what is seen of who alone has the number, and tells whether somebody has it
   abbrev pub IsAnswer : Option Whereabouts → Type 0
   IsAnswer found = (s : LaneState) → LaneStands (lane_of v n) s

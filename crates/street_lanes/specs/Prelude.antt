@@ -1,6 +1,7 @@
 -- The names that contracts and proofs cite most, passed on from one place. Declares nothing.
 pub use Rattle.street_lanes.specs.Detectors.{AllGoOn, AllNote, Detectors, GoesOn, MeterStands, MetersStandFor, Notes, Placed, cleared, triple_of, watch_of}
 pub use Rattle.street_lanes.specs.Nobody.{HasEmptyBuffer, HasNobody, HasNobodyInCells, HasNobodyWaiting, IsDeserted}
+pub use Rattle.street_lanes.specs.Dues.{AreDue, IsFirstDue, StaysAt}
 pub use Rattle.street_lanes.specs.LaneChanges.{ChangesAt, ChangesLanes, changed_lane}
 pub use Rattle.street_lanes.specs.Lanes.{AllLanes, GoesAt, GoesIf, IsLane, Lanes, Others, Same, fresh, fresh_on, lane_of, no_place, place_at, size_of, size_on}
 pub use Rattle.street_lanes.specs.Lists.{AreShort, ComesIn, Departs, Enters, HasShortPlan, IsFreeCell, IsNotAfter, IsPlaceFor, IsShort, IsStart}

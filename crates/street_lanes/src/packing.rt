@@ -9,7 +9,10 @@ use street_rule::Dice;
 use street_yard::{ListId, Yard};
 
 /// The fewest who come to cells until keys are given anew.
-const FEWEST: usize = 64;
+const FEWEST: usize = 8_192;
+
+/// The fewest in cells and buffers whom new keys serve. What walks read of fewer stays in the processor's cache in any order.
+const CROWD: u64 = 4_096;
 
 /// Keys are given anew in steps that are multiples of this, so that workers who share steps mostly do it in the same one. They wait
 /// for the slowest of them in each step.
@@ -53,12 +56,16 @@ fn pack_lanes(yard: &mut Yard, dice: &mut Dice, lanes: usize) -> usize
 
 impl Lanes {
     /// Gives the vehicles in cells and buffers keys in the order in which they stand: a walk along a lane is then one along memory.
-    /// Does so in a step that is a multiple of 8, once at least 64 have come to cells since it did, and half as many as stood in
-    /// cells and buffers then. Nothing else changes. Takes no memory.
+    /// Does so in a step that is a multiple of 8, once at least 8,192 have come to cells since it did, and half as many as stood
+    /// in cells and buffers then; never while fewer than 4,096 are there. Nothing else changes. Takes no memory.
     pub fn pack(&mut self, clock: Step)
         ensures { self.new ≡ self.old }
     {
         if clock % TOGETHER != 0 || self.come < FEWEST.max(self.packed / 2) {
+            return;
+        }
+        let totals = self.yard.totals();
+        if totals[0].saturating_add(totals[1]) < CROWD {
             return;
         }
         self.come = 0;

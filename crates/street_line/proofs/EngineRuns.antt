@@ -96,17 +96,6 @@ module _ {S M : Type 0} (serves : S → Command → Served → S → Type 0) (an
       let told = breaks-as before held run.text after holds fault.kind fault.tally run.breaks old stands in
       (told.0, told.2, record { text = run.text; read = run.read; breaks = told.1 })
 
--- so by an engine, and by the machine
-pub whole-machine : (before : EngineView) (unread held : Option (List ℕ)) (after : EngineView) (left holds : Option (List ℕ)) (tally : Tally)
-    → ServedWhole EngineServes before unread held after left holds tally → (old : State) → StandsFor before old
-    → (new : State) × StandsFor after new × ServedWhole MachineServes old unread held new left holds tally
-whole-machine = whole-as EngineServes MachineServes StandsFor served-machine
-
-pub part-machine : (before : EngineView) (unread held : Option (List ℕ)) (after : EngineView) (left holds : Option (List ℕ)) (fault : RunFault)
-    → ServedInPart EngineServes before unread held after left holds fault → (old : State) → StandsFor before old
-    → (new : State) × StandsFor after new × ServedInPart MachineServes old unread held new left holds fault
-part-machine = part-as EngineServes MachineServes StandsFor served-machine
-
 -- ---- a run
 
 one-run : (old : State) (what : Said) (out : List ℕ) (mid : State) (cs : List Command) (new : State) → Done MachineServes old what out mid

@@ -4,10 +4,12 @@ use Rattle.street_base.specs.declared.command.Command.{Command}
 use Rattle.street_stream.specs.Lines.{cut, lines_of}
 use Rattle.street_stream.specs.declared.tally.FaultKind.TheVariants as kinds
 use Rattle.street_line.specs.Kept.{GoesKept, HaltsAt, KeepsSaid, KeptUpTo, KeptWhole, PassStops, Passed, Reaches}
+use Rattle.street_line.specs.Redo.{RedoSaid, Redoes}
 use Rattle.street_line.specs.Runs.{Said, calls, faulty, said, silent}
 use Rattle.street_line.specs.declared.kept_runs.KeptFault.{KeptFault}
 use Rattle.street_line.specs.declared.kept_runs.KeptFault.TheVariants.{Log, Run}
 use Rattle.street_line.specs.declared.service.Served.{Served}
+use Rattle.street_line.specs.declared.service.Served.TheVariants.{Answered}
 
 module _ {S M : Type 0} (serves : S → Command → Served → S → Type 0) (answers : M → Command → Served → M → Type 0) (Stands : S → M → Type 0)
     (one : (before : S) (command : Command) (served : Served) (after : S) → serves before command served after → (old : M) → Stands before old
@@ -80,11 +82,11 @@ module _ {S M : Type 0} (serves : S → Command → Served → S → Type 0) (an
   pub kept-part-as : (before : S) (unread log out : Option (List ℕ)) (fault : KeptFault) (after : S) (left held synced told : Option (List ℕ)) → KeptUpTo serves before unread log out fault after left held synced told
       → (old : M) → Stands before old → (new : M) × KeptUpTo answers old unread log out fault new left held synced told × Stands after new
   kept-part-as before unread log out fault after left held synced told k old stands =
-      let passed = passed-as before log out (cut k.seen).0 k.mid k.owed k.owed k.told k.passed old stands in
+      let passed = passed-as before log out (cut k.earlier).0 k.mid k.owed k.owed k.told k.passed old stands in
       let stops = stops-as k.mid k.owed k.owed k.told k.last k.begun fault after held synced told k.stops passed.0 passed.2 in (
         stops.0,
         record {
-          seen = k.seen;
+          earlier = k.earlier;
           got = k.got;
           last = k.last;
           begun = k.begun;
@@ -98,3 +100,18 @@ module _ {S M : Type 0} (serves : S → Command → Served → S → Type 0) (an
         },
         stops.2,
       )
+
+  -- lines that are done again
+  redo-said-as : (before : S) (what : Said) (after : S) → RedoSaid serves before what after → (old : M) → Stands before old → (new : M) × RedoSaid answers old what new × Stands after new
+  redo-said-as before silent after h old stands = (old, refl, subst (λ (v : S). Stands v old) (sym h) stands)
+  redo-said-as before (faulty f) after h old stands = absurd h
+  redo-said-as before (calls c) after h old stands =
+      let step = one before c (Answered h.0) after h.1 old stands in
+      (step.0, (h.0, step.1, h.2), step.2)
+
+  pub redoes-as : (before : S) (ls : List (List ℕ)) (after : S) → Redoes serves before ls after → (old : M) → Stands before old → (new : M) × Redoes answers old ls new × Stands after new
+  redoes-as before [] after h old stands = (old, refl, subst (λ (v : S). Stands v old) (sym h) stands)
+  redoes-as before (l ∷ ls) after h old stands =
+      let first = redo-said-as before (said l) h.0 h.1 old stands in
+      let rest = redoes-as h.0 ls after h.2 first.0 first.2 in
+      (rest.0, (first.0, first.1, rest.1), rest.2)

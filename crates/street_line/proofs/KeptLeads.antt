@@ -14,7 +14,7 @@ use Rattle.street_stream.proofs.Cut.{cut_none}
 use Rattle.street_stream.proofs.CutParts.{AllInside, lines_inside, lines_onto}
 use Rattle.street_stream.specs.Lines.{IsInsideLine, lines_of}
 use Rattle.street_line.proofs.EngineRuns.{served-machine}
-use Rattle.street_line.proofs.KeptAs.{kept-as}
+use Rattle.street_line.proofs.KeptAs.{kept-as, redoes-as}
 use Rattle.street_line.proofs.Said.{line_is}
 use Rattle.street_line.specs.Redo.{RedoSaid, Redoes, is_done}
 use Rattle.street_line.specs.Engines.{EngineServes, MachineServes}
@@ -127,18 +127,6 @@ pub kept-machine : (before : EngineView) (ls : List (List ℕ)) (out kept : List
     → (old : State) → StandsFor before old → (new : State) × GoesKept MachineServes old ls out kept new × StandsFor after new
 kept-machine = kept-as EngineServes MachineServes StandsFor served-machine
 
-redo-said : (before : EngineView) (what : Said) (after : EngineView) → RedoSaid EngineServes before what after → (old : State) → StandsFor before old
-    → (new : State) × RedoSaid MachineServes old what new × StandsFor after new
-redo-said before silent after h old stands = (old, refl, subst (λ (v : EngineView). StandsFor v old) (sym h) stands)
-redo-said before (faulty f) after h old stands = absurd h
-redo-said before (calls c) after h old stands =
-    let step = served-machine before c (Answered h.0) after h.1 old stands in
-    (step.0, (h.0, step.1, h.2), step.2)
-
 pub redo-machine : (before : EngineView) (ls : List (List ℕ)) (after : EngineView) → Redoes EngineServes before ls after → (old : State) → StandsFor before old
     → (new : State) × Redoes MachineServes old ls new × StandsFor after new
-redo-machine before [] after h old stands = (old, refl, subst (λ (v : EngineView). StandsFor v old) (sym h) stands)
-redo-machine before (l ∷ ls) after h old stands =
-    let first = redo-said before (said l) h.0 h.1 old stands in
-    let rest = redo-machine h.0 ls after h.2 first.0 first.2 in
-    (rest.0, (first.0, first.1, rest.1), rest.2)
+redo-machine = redoes-as EngineServes MachineServes StandsFor served-machine

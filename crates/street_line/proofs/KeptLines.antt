@@ -115,42 +115,42 @@ module _ {S : Type 0} (serves : S → Command → Served → S → Type 0) where
   )
 
   -- the lines of a text that were served so far, and those of its next bytes
-  pub passed_more : (start old new : S) (log before l0 w0 held synced after : Option (List ℕ)) (seen bytes : List ℕ)
-      → Passed serves start log before (cut seen).0 old l0 l0 w0 → Passed serves old l0 w0 (cut ((cut seen).1 ++ bytes)).0 new held synced after
-      → Passed serves start log before (cut (seen ++ bytes)).0 new held synced after
-  passed_more start old new log before l0 w0 held synced after seen bytes h g = record {
+  pub passed_more : (start old new : S) (log before l0 w0 held synced after : Option (List ℕ)) (earlier bytes : List ℕ)
+      → Passed serves start log before (cut earlier).0 old l0 l0 w0 → Passed serves old l0 w0 (cut ((cut earlier).1 ++ bytes)).0 new held synced after
+      → Passed serves start log before (cut (earlier ++ bytes)).0 new held synced after
+  passed_more start old new log before l0 w0 held synced after earlier bytes h g = record {
     out = h.out ++ g.out;
     kept = h.kept ++ g.kept;
-    served = rw (cut_append seen bytes) (goes_both start old new (cut seen).0 (cut ((cut seen).1 ++ bytes)).0 h.out h.kept g.out g.kept h.served g.served);
+    served = rw (cut_append earlier bytes) (goes_both start old new (cut earlier).0 (cut ((cut earlier).1 ++ bytes)).0 h.out h.kept g.out g.kept h.served g.served);
     written = Appends-trans before w0 after h.out g.out h.written g.written;
     holds = Appends-trans log l0 held h.kept g.kept h.holds g.holds;
     stays = g.stays;
   }
 
-  pub passed_last : (start old new : S) (log before l0 w0 held synced after : Option (List ℕ)) (seen : List ℕ)
-      → Passed serves start log before (cut seen).0 old l0 l0 w0 → Passed serves old l0 w0 (if_any (cut seen).1) new held synced after
-      → Passed serves start log before (lines_of seen) new held synced after
-  passed_last start old new log before l0 w0 held synced after seen h g = record {
+  pub passed_last : (start old new : S) (log before l0 w0 held synced after : Option (List ℕ)) (earlier : List ℕ)
+      → Passed serves start log before (cut earlier).0 old l0 l0 w0 → Passed serves old l0 w0 (if_any (cut earlier).1) new held synced after
+      → Passed serves start log before (lines_of earlier) new held synced after
+  passed_last start old new log before l0 w0 held synced after earlier h g = record {
     out = h.out ++ g.out;
     kept = h.kept ++ g.kept;
-    served = goes_both start old new (cut seen).0 (if_any (cut seen).1) h.out h.kept g.out g.kept h.served g.served;
+    served = goes_both start old new (cut earlier).0 (if_any (cut earlier).1) h.out h.kept g.out g.kept h.served g.served;
     written = Appends-trans before w0 after h.out g.out h.written g.written;
     holds = Appends-trans log l0 held h.kept g.kept h.holds g.holds;
     stays = g.stays;
   }
 
   -- a fault ended the run between two reads
-  pub ends_between : (start now : S) (unread log before left l0 w0 : Option (List ℕ)) (seen : List ℕ) (kind : FaultKind) → (kind ≡ Read) ⊎ (kind ≡ Endless)
-      → Passed serves start log before (cut seen).0 now l0 l0 w0 → Consumes unread left seen → KeptUpTo serves start unread log before (Run kind) now left l0 l0 w0
-  ends_between start now unread log before left l0 w0 seen kind which h read = record {
-    seen = seen;
+  pub ends_between : (start now : S) (unread log before left l0 w0 : Option (List ℕ)) (earlier : List ℕ) (kind : FaultKind) → (kind ≡ Read) ⊎ (kind ≡ Endless)
+      → Passed serves start log before (cut earlier).0 now l0 l0 w0 → Consumes unread left earlier → KeptUpTo serves start unread log before (Run kind) now left l0 l0 w0
+  ends_between start now unread log before left l0 w0 earlier kind which h read = record {
+    earlier = earlier;
     got = [];
-    last = (cut ((cut seen).1 ++ [])).0;
-    begun = if_any (cut ((cut seen).1 ++ [])).1;
+    last = (cut ((cut earlier).1 ++ [])).0;
+    begun = if_any (cut ((cut earlier).1 ++ [])).1;
     mid = now;
     owed = l0;
     told = w0;
-    read = rw (append-nil seen) read;
+    read = rw (append-nil earlier) read;
     is_last = inl (refl, refl);
     passed = h;
     stops = elim which [
@@ -160,19 +160,19 @@ module _ {S : Type 0} (serves : S → Command → Served → S → Type 0) where
   }
 
   -- the lines that were done are the first of the text
-  last_lines : (left : Option (List ℕ)) (seen got : List ℕ) (ls begun : List (List ℕ)) → IsLast left seen got ls begun → (rest : List (List ℕ)) × (lines_of (seen ++ got) ≡ ((cut seen).0 ++ ls) ++ rest)
-  last_lines left seen got ls begun (inl is) = (if_any (cut ((cut seen).1 ++ got)).1, rw is.0 (ap (λ (p : List (List ℕ) × List ℕ). p.0 ++ if_any p.1) (cut_append seen got)))
-  last_lines left seen got ls begun (inr is) = ([], rw (is.0, is.2) (ap lines_of (append-nil seen) ∙ sym (append-nil (lines_of seen))))
+  last_lines : (left : Option (List ℕ)) (earlier got : List ℕ) (ls begun : List (List ℕ)) → IsLast left earlier got ls begun → (rest : List (List ℕ)) × (lines_of (earlier ++ got) ≡ ((cut earlier).0 ++ ls) ++ rest)
+  last_lines left earlier got ls begun (inl is) = (if_any (cut ((cut earlier).1 ++ got)).1, rw is.0 (ap (λ (p : List (List ℕ) × List ℕ). p.0 ++ if_any p.1) (cut_append earlier got)))
+  last_lines left earlier got ls begun (inr is) = ([], rw (is.0, is.2) (ap lines_of (append-nil earlier) ∙ sym (append-nil (lines_of earlier))))
 
   -- nothing but what passed is out, and that and perhaps more is held and stays
   first_passed : (start : S) (unread log before : Option (List ℕ)) (fault : KeptFault) (now : S) (left held synced after : Option (List ℕ)) (h : KeptUpTo serves start unread log before fault now left held synced after)
       → after ≡ h.told → Extends h.owed held → Extends h.owed synced → KeptFirst serves start unread log before left held synced after
   first_passed start unread log before fault now left held synced after h is more stayed =
       let passed = h.passed in
-      let lines = lines_more h.seen h.got in
+      let lines = lines_more h.earlier h.got in
       record {
-        text = h.seen ++ h.got;
-        done = (cut h.seen).0;
+        text = h.earlier ++ h.got;
+        done = (cut h.earlier).0;
         rest = lines.0;
         out = passed.out;
         kept = passed.kept;
@@ -202,11 +202,11 @@ module _ {S : Type 0} (serves : S → Command → Served → S → Type 0) where
   first_up_to start unread log before (Run kinds.Write) now left held synced after h =
       let passed = h.passed in
       let stops = h.stops in
-      let lines = last_lines left h.seen h.got h.last h.begun h.is_last in
+      let lines = last_lines left h.earlier h.got h.last h.begun h.is_last in
       let holds : Appends log held (passed.kept ++ stops.1) = Appends-trans log h.owed held passed.kept stops.1 passed.holds stops.4 in
       record {
-        text = h.seen ++ h.got;
-        done = (cut h.seen).0 ++ h.last;
+        text = h.earlier ++ h.got;
+        done = (cut h.earlier).0 ++ h.last;
         rest = lines.0;
         out = passed.out ++ stops.0;
         kept = passed.kept ++ stops.1;
@@ -214,7 +214,7 @@ module _ {S : Type 0} (serves : S → Command → Served → S → Type 0) where
         sent = length passed.out + stops.3.0;
         read = h.read;
         first_lines = lines.1;
-        served = goes_both start h.mid now (cut h.seen).0 h.last passed.out passed.kept stops.0 stops.1 passed.served stops.2;
+        served = goes_both start h.mid now (cut h.earlier).0 h.last passed.out passed.kept stops.0 stops.1 passed.served stops.2;
         within = omega (arith, stops.3.1, length-append passed.out stops.0);
         written = rw (take-append-add passed.out stops.0 stops.3.0) (Appends-trans before h.told after passed.out (take stops.3.0 stops.0) passed.written stops.3.2);
         holds = ([], rw (append-nil (passed.kept ++ stops.1)) holds);
@@ -301,9 +301,9 @@ module _ {S : Type 0} (serves : S → Command → Served → S → Type 0) where
   redo_both old mid new [] ms h g = subst (λ (s : S). Redoes serves s ms new) h g
   redo_both old mid new (l ∷ ls) ms h g = (h.0, h.1, redo_both h.0 mid new ls ms h.2 g)
 
-  pub redo_more : (old mid new : S) (seen bytes : List ℕ) → Redoes serves old (cut seen).0 mid → Redoes serves mid (cut ((cut seen).1 ++ bytes)).0 new
-      → Redoes serves old (cut (seen ++ bytes)).0 new
-  redo_more old mid new seen bytes h g = rw (cut_append seen bytes) (redo_both old mid new (cut seen).0 (cut ((cut seen).1 ++ bytes)).0 h g)
+  pub redo_more : (old mid new : S) (earlier bytes : List ℕ) → Redoes serves old (cut earlier).0 mid → Redoes serves mid (cut ((cut earlier).1 ++ bytes)).0 new
+      → Redoes serves old (cut (earlier ++ bytes)).0 new
+  redo_more old mid new earlier bytes h g = rw (cut_append earlier bytes) (redo_both old mid new (cut earlier).0 (cut ((cut earlier).1 ++ bytes)).0 h g)
 
   pub redo_none : (old : S) → Redoes serves old (cut []).0 old
   redo_none old = rw cut_none refl
@@ -329,25 +329,25 @@ module _ {S : Type 0} (serves : S → Command → Served → S → Type 0) where
       (went.0, rw is (h.0, h.1, part new, h.3, goes_redo (part old) h.0 h.2 (part new) went.1, inl refl))
 
   -- the lines of a text that were done so far, and a fault in its next bytes
-  pub redo_halts : (start old new : S) (seen bytes : List ℕ) (fault : RedoFault) → Redoes serves start (cut seen).0 old
-      → RedoHalts serves old (length (cut seen).0) ((cut seen).1 ++ bytes) fault new → RedoHalts serves start 0 (seen ++ bytes) fault new
-  redo_halts start old new seen bytes (RedoRun kinds.Read) h g = redo_more start old new seen bytes h g
-  redo_halts start old new seen bytes (RedoRun kinds.Endless) h g = redo_more start old new seen bytes h g
-  redo_halts start old new seen bytes (RedoRun kinds.Write) h g = g
-  redo_halts start old new seen bytes (RedoRun kinds.Starved) h g =
-      let more : List ℕ = (cut seen).1 ++ bytes in
-      let lines : lines_of (seen ++ bytes) ≡ ((cut seen).0 ++ g.0) ++ g.1 = ap (λ (p : List (List ℕ) × List ℕ). p.0 ++ if_any p.1) (cut_append seen bytes)
-      ∙ append_assoc (cut seen).0 (cut more).0 (if_any (cut more).1) ∙ ap (λ (ls : List (List ℕ)). (cut seen).0 ++ ls) g.3 ∙ sym (append_assoc (cut seen).0 g.0 g.1) in
-      ((cut seen).0 ++ g.0, g.1, g.2, lines, redo_both start old g.2 (cut seen).0 g.0 h g.4, g.5)
-  redo_halts start old new seen bytes (BadLine number) h g =
-      let lines : (cut (seen ++ bytes)).0 ≡ ((cut seen).0 ++ g.0) ++ g.1 ∷ g.2 = ap (λ (p : List (List ℕ) × List ℕ). p.0) (cut_append seen bytes)
-      ∙ ap (λ (ls : List (List ℕ)). (cut seen).0 ++ ls) g.4 ∙ sym (append_assoc (cut seen).0 g.0 (g.1 ∷ g.2)) in
-      let at : number ≡ 0 + length ((cut seen).0 ++ g.0) + 1 = omega (arith, g.7, length-append (cut seen).0 g.0) in
-      ((cut seen).0 ++ g.0, g.1, g.2, g.3, lines, redo_both start old g.3 (cut seen).0 g.0 h g.5, g.6, at)
+  pub redo_halts : (start old new : S) (earlier bytes : List ℕ) (fault : RedoFault) → Redoes serves start (cut earlier).0 old
+      → RedoHalts serves old (length (cut earlier).0) ((cut earlier).1 ++ bytes) fault new → RedoHalts serves start 0 (earlier ++ bytes) fault new
+  redo_halts start old new earlier bytes (RedoRun kinds.Read) h g = redo_more start old new earlier bytes h g
+  redo_halts start old new earlier bytes (RedoRun kinds.Endless) h g = redo_more start old new earlier bytes h g
+  redo_halts start old new earlier bytes (RedoRun kinds.Write) h g = g
+  redo_halts start old new earlier bytes (RedoRun kinds.Starved) h g =
+      let more : List ℕ = (cut earlier).1 ++ bytes in
+      let lines : lines_of (earlier ++ bytes) ≡ ((cut earlier).0 ++ g.0) ++ g.1 = ap (λ (p : List (List ℕ) × List ℕ). p.0 ++ if_any p.1) (cut_append earlier bytes)
+      ∙ append_assoc (cut earlier).0 (cut more).0 (if_any (cut more).1) ∙ ap (λ (ls : List (List ℕ)). (cut earlier).0 ++ ls) g.3 ∙ sym (append_assoc (cut earlier).0 g.0 g.1) in
+      ((cut earlier).0 ++ g.0, g.1, g.2, lines, redo_both start old g.2 (cut earlier).0 g.0 h g.4, g.5)
+  redo_halts start old new earlier bytes (BadLine number) h g =
+      let lines : (cut (earlier ++ bytes)).0 ≡ ((cut earlier).0 ++ g.0) ++ g.1 ∷ g.2 = ap (λ (p : List (List ℕ) × List ℕ). p.0) (cut_append earlier bytes)
+      ∙ ap (λ (ls : List (List ℕ)). (cut earlier).0 ++ ls) g.4 ∙ sym (append_assoc (cut earlier).0 g.0 (g.1 ∷ g.2)) in
+      let at : number ≡ 0 + length ((cut earlier).0 ++ g.0) + 1 = omega (arith, g.7, length-append (cut earlier).0 g.0) in
+      ((cut earlier).0 ++ g.0, g.1, g.2, g.3, lines, redo_both start old g.3 (cut earlier).0 g.0 h g.5, g.6, at)
 
 -- the line that has not ended goes on
-pub open_more : (most : ℕ) (text : OpenText) (seen bytes : List ℕ) → IsOpen most text (cut ((cut seen).1 ++ bytes)).1 → IsOpen most text (cut (seen ++ bytes)).1
-open_more most text seen bytes is = rw (cut_append seen bytes) is
+pub open_more : (most : ℕ) (text : OpenText) (earlier bytes : List ℕ) → IsOpen most text (cut ((cut earlier).1 ++ bytes)).1 → IsOpen most text (cut (earlier ++ bytes)).1
+open_more most text earlier bytes is = rw (cut_append earlier bytes) is
 
 pub open_none : (most : ℕ) (text : OpenText) → IsOpen most text [] → IsOpen most text (cut []).1
 open_none most text is = rw cut_none is

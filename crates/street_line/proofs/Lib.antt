@@ -1,6 +1,7 @@
 pub mod Said
 pub mod ServiceHandler
 pub mod EngineRuns
+pub mod SinkSessions
 pub mod RecordedRuns
 pub mod Alone
 pub mod KeptLines
@@ -9,6 +10,7 @@ pub mod KeptLeads
 pub mod KeptFunction
 pub mod SoundText
 pub mod KeptFiles
+pub mod Foreign
 pub mod Leads
-pub mod FileMachine
+pub mod FilesAs
 pub mod PartLeads

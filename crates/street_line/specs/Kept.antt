@@ -58,12 +58,12 @@ IsEntry line Unrecorded entry = ⊥
 abbrev pub IsNoted : List ℕ → Served → List ℕ → List ℕ → Type 0
 IsNoted line served old new = (entry : List ℕ) × IsEntry line served entry × (new ≡ old ++ entry)
 
--- that ls are the lines that end in the bytes `got` of the last read, behind the text `seen`, and `begun` is the line that
+-- that ls are the lines that end in the bytes `got` of the last read, behind the text `earlier`, and `begun` is the line that
 -- has begun behind them, if there is one; or, where `got` is empty at the text's end, that ls are the one line without LF
--- that is left of `seen`, if there is one, and none has begun
+-- that is left of `earlier`, if there is one, and none has begun
 abbrev pub IsLast : Option (List ℕ) → List ℕ → List ℕ → List (List ℕ) → List (List ℕ) → Type 0
-IsLast left seen got ls begun = ((ls ≡ (cut ((cut seen).1 ++ got)).0) × (begun ≡ if_any (cut ((cut seen).1 ++ got)).1))
-    ⊎ ((got ≡ []) × IsAtEnd left × (ls ≡ if_any (cut seen).1) × (begun ≡ []))
+IsLast left earlier got ls begun = ((ls ≡ (cut ((cut earlier).1 ++ got)).0) × (begun ≡ if_any (cut ((cut earlier).1 ++ got)).1))
+    ⊎ ((got ≡ []) × IsAtEnd left × (ls ≡ if_any (cut earlier).1) × (begun ≡ []))
 
 module _ {S : Type 0} (serves : S → Command → Served → S → Type 0) where
   -- that a line that says this was served, a command as `serves` says, with output `out`, and the log keeps `entry` of
@@ -154,16 +154,16 @@ module _ {S : Type 0} (serves : S → Command → Served → S → Type 0) where
   -- written and their log synced (`Passed`); what is left of the lines of the last read, or of the last line without LF,
   -- `PassStops` says
   pub record KeptUpTo (start : S) (unread log before : Option (List ℕ)) (fault : KeptFault) (now : S) (left held synced after : Option (List ℕ)) : Type 0 where
-    pub seen : List ℕ
+    pub earlier : List ℕ
     pub got : List ℕ
     pub last : List (List ℕ)
     pub begun : List (List ℕ)
     pub mid : S
     pub owed : Option (List ℕ)
     pub told : Option (List ℕ)
-    pub read : Consumes unread left (seen ++ got)
-    pub is_last : IsLast left seen got last begun
-    pub passed : Passed start log before (cut seen).0 mid owed owed told
+    pub read : Consumes unread left (earlier ++ got)
+    pub is_last : IsLast left earlier got last begun
+    pub passed : Passed start log before (cut earlier).0 mid owed owed told
     pub stops : PassStops mid owed owed told last begun fault now held synced after
 
   -- that of the text that was read the first lines, perhaps all or none, were served, first bytes of their output are

@@ -1,8 +1,9 @@
 -- A file that a session is kept in, and a session that goes on from it.
-use Rattle.std.specs.Prelude.{◌≡◌, ◌⊎◌, ℕ, zero, suc, List, ◌∷◌, [], ◌++◌, length, take, drop, Option, Some, None, option_map, ⊤}
+use Rattle.std.specs.Prelude.{◌≡◌, ◌⊎◌, ◌<◌, ◌==◌, ◌||◌, Bool, not, true, false, if◌then◌else◌, ℕ, zero, suc, List, ◌∷◌, [], ◌++◌, length, take, drop, Option, Some, None, option_map, ⊤}
 use Rattle.street_base.specs.declared.command.Command.{Command}
 use Rattle.std.specs.Io.KnownBytes.{Keeps}
-use Rattle.street_stream.specs.Lines.{cut, IsInsideLine}
+use Rattle.street_stream.specs.Lines.{cut, is_space, IsInsideLine}
+use Rattle.street_text.specs.LineCommands.{longest_line}
 use Rattle.street_stream.specs.declared.counted.Counted.{Counted}
 use Rattle.street_stream.specs.Logs.{Extends}
 use Rattle.street_line.specs.Redo.{RedoBroke, Redoes}
@@ -42,6 +43,21 @@ abbrev pub IsText : Option (List ℕ) → List ℕ → Type 0
 IsText None text = ⊤
 IsText (Some xs) text = xs ≡ text
 
+-- whether the first byte of a text that is no space, tab or CR is one that no line begins with, and no NUL, before which
+-- a file ends; false where each byte is blank
+abbrev pub begins_foreign : List ℕ → Bool
+begins_foreign [] = false
+begins_foreign (b ∷ bs) = if is_space b then begins_foreign bs else not ((b == 123) || (b == 0))
+
+-- that a text without an ended line is another's than a session's: it has more bytes than a line may have, or begins
+-- with a byte that no line begins with
+abbrev pub IsForeign : List ℕ → Type 0
+IsForeign text = (longest_line < length text) ⊎ (begins_foreign text ≡ true)
+
+-- that what was had is a text of another's than a session (`IsForeign`); where it is not known, nothing is said
+abbrev pub IsForeignText : Option (List ℕ) → Type 0
+IsForeignText had = (text : List ℕ) → had ≡ Some text → IsForeign text
+
 module _ {S : Type 0} (serves : S → Command → Served → S → Type 0) where
   -- that all ended lines of a kept file, `whole`, were done again, from `start` to `mid`, and `redo` counts lines and
   -- bytes; behind them, up to a first NUL, stands no further LF, but perhaps a torn end; of a file not known no text is
@@ -70,12 +86,12 @@ module _ {S : Type 0} (serves : S → Command → Served → S → Type 0) where
     pub recovered : Recovered start had mid log redo
     pub whole : KeptWhole serves mid unread log before now left held synced after
 
-  -- that a fault came before a session went on: the file is as it was where a line could not be done again or it has no
-  -- line that ended; where it was to be written anew, it has its text or its ended lines, and what was synced of these
+  -- that a fault came before a session went on: the file is as it was where a line could not be done again, or it has no
+  -- line that ended and is another's (`IsForeign`); where it was to be written anew, it has its text or its ended lines, and what was synced of these
   -- lines still is
   abbrev pub BeginBreaks : S → Option (List ℕ) → Option (List ℕ) → S → Option (List ℕ) → Option (List ℕ) → BeginFault → Type 0
   BeginBreaks start had stayed now held synced (Recover fault) = ((rest : Option (List ℕ)) × RedoBroke serves start (sound_of had) fault now rest) × (held ≡ had) × (synced ≡ stayed)
-  BeginBreaks start had stayed now held synced Foreign = ((redo : RedoneLines) × Redone start had now redo × (redo.bytes ≡ 0)) × (held ≡ had) × (synced ≡ stayed)
+  BeginBreaks start had stayed now held synced Foreign = ((redo : RedoneLines) × Redone start had now redo × (redo.bytes ≡ 0) × IsForeignText had) × (held ≡ had) × (synced ≡ stayed)
   BeginBreaks start had stayed now held synced Settle =
       (redo : RedoneLines) × Redone start had now redo × (Keeps had held ⊎ Keeps (first_of redo.bytes had) held) × Extends (first_of redo.bytes stayed) synced
 

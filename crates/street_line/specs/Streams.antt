@@ -3,7 +3,6 @@ use Rattle.std.specs.Prelude.{ℕ, ◌≤◌, List, Option, Result, IfOk, IfErr}
 use Rattle.street_base.specs.declared.command.Command.{Command}
 use Rattle.street_base.specs.Prelude.{State}
 use Rattle.street_desk.specs.Passes.{PassView}
-use Rattle.street_engine.specs.Prelude.{EngineView, StandsFor}
 use Rattle.street_stream.specs.Faults.{IsCaused}
 use Rattle.street_stream.specs.declared.counted.Counted.{Counted}
 use Rattle.street_stream.specs.declared.tally.RunFault.{RunFault}
@@ -54,15 +53,16 @@ module _ {D W : Type 0} (remaining : D → Option (List ℕ)) (contents : W → 
   MachineServesFirst old reader writer read written fault =
       (new : State) × ServesFirst MachineServes remaining contents old reader writer new read written fault
 
-  -- that, for any state for which the engine stood, the machine serves all lines of the reader from it, their output is
-  -- in the writer, and the engine stands for the state that they lead to
-  abbrev pub EngineServesAll : EngineView → Counted D → Counted W → EngineView → Counted D → Counted W → Tally → Type 0
-  EngineServesAll before reader writer after read written tally = (old : State) → StandsFor before old
-      → (new : State) × StandsFor after new × ServesAll MachineServes remaining contents old reader writer new read written tally
+module _ {P M S D W : Type 0} (answers : M → Command → Served → M → Type 0) (stands : P → S → M → Type 0)
+    (remaining : D → Option (List ℕ)) (contents : W → Option (List ℕ)) where
+  -- that, for any machine for which the session stood, it serves all lines of the reader, their output is in the
+  -- writer, and the session stands for what they lead to
+  abbrev pub ServesAllAs : S → Counted D → Counted W → S → Counted D → Counted W → Tally → Type 0
+  ServesAllAs before reader writer after read written tally = (start : P) (old : M) → stands start before old
+      → (new : M) × stands start after new × ServesAll answers remaining contents old reader writer new read written tally
 
-  -- that, for any state for which the engine stood, the machine serves the first lines of the reader from it until a
-  -- fault ends the run, first bytes of their output are in the writer, and the engine stands for the state that they
-  -- lead to
-  abbrev pub EngineServesFirst : EngineView → Counted D → Counted W → EngineView → Counted D → Counted W → RunFault → Type 0
-  EngineServesFirst before reader writer after read written fault = (old : State) → StandsFor before old
-      → (new : State) × StandsFor after new × ServesFirst MachineServes remaining contents old reader writer new read written fault
+  -- that, for any machine for which the session stood, it serves the first lines of the reader until a fault ends the
+  -- run, first bytes of their output are in the writer, and the session stands for what they lead to
+  abbrev pub ServesFirstAs : S → Counted D → Counted W → S → Counted D → Counted W → RunFault → Type 0
+  ServesFirstAs before reader writer after read written fault = (start : P) (old : M) → stands start before old
+      → (new : M) × stands start after new × ServesFirst answers remaining contents old reader writer new read written fault

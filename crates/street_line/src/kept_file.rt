@@ -1,11 +1,12 @@
-//! A file that a session is kept in, and a session that goes on from what it has. `kept_engines.rt` calls it, and for a session
+//! A file that a session is kept in, and a session that goes on from what it has. `engines.rt` calls it, and for a session
 //! with a record `street_runs`.
-ghost use Rattle.std.specs.Prelude.{◌≡◌, ◌≤◌, List, ℕ, Option, OnOk, IfErr, IfOk};
+ghost use Rattle.std.specs.Prelude.{◌≡◌, ◌≤◌, ◌==◌, ◌||◌, List, ℕ, Option, OnOk, IfErr, IfOk, not, true};
 ghost use Rattle.street_base.specs.Prelude.{most_reads};
+ghost use Rattle.street_stream.specs.Lines.{is_space};
 ghost use Rattle.street_stream.specs.Streams.{IsFlushed, IsFresh, IsPrompt};
 ghost use Rattle.street_line.specs.Redo.{RedoBroke};
 ghost use Rattle.street_line.specs.Kept.{KeptUpTo, KeptWhole};
-ghost use Rattle.street_line.specs.KeptFiles.{BeginBreaks, IsBeginCaused, IsRunCaused, IsServeCaused, Recovered, Redone, ServeBreaks, ServesOn, sound_len, sound_of};
+ghost use Rattle.street_line.specs.KeptFiles.{BeginBreaks, IsBeginCaused, IsRunCaused, IsForeignText, IsServeCaused, Recovered, Redone, ServeBreaks, ServesOn, begins_foreign, sound_len, sound_of};
 
 use crate::kept_runs::{KeptFault, run_kept};
 use crate::redo::{RedoFault, RedoneLines, redo_log};
@@ -130,10 +131,14 @@ impl<'a, K: KeptFile> Read for KeptReader<'a, K> {
 
 /// Whether a file of which no line has ended is another's than a session's: it has more bytes than a line, or a first byte that no
 /// line begins with. It is not where it can not be read.
-fn is_foreign<K: KeptFile>(file: &K) -> bool {
+fn is_foreign<K: KeptFile>(file: &K) -> bool
+    ensures { result ≡ true → IsForeignText (K.held file.now) }
+{
     let mut buffer = [0u8; READ_SIZE];
-    if let Ok(1..) = file.read_at(LONGEST_LINE as u64, &mut buffer) {
-        return true;
+    if let Ok(count) = file.read_at(LONGEST_LINE as u64, &mut buffer) {
+        if count > 0 {
+            return true;
+        }
     }
     match file.read_at(0, &mut buffer) {
         Ok(count) => has_foreign_begin(&buffer[..count]),
@@ -141,12 +146,27 @@ fn is_foreign<K: KeptFile>(file: &K) -> bool {
     }
 }
 
+/// Whether a byte is a space, a tab or a CR.
+fn is_space(byte: u8) -> bool
+    ensures { result ≡ is_space byte }
+{
+    byte == b' ' || byte == b'\t' || byte == b'\r'
+}
+
+/// Whether no command begins with a byte, and it is no NUL, before which a file ends.
+fn is_foreign_byte(byte: u8) -> bool
+    ensures { result ≡ not ((byte == 123) || (byte == 0)) }
+{
+    !(byte == b'{' || byte == 0)
+}
+
 /// Whether the first of these bytes that is not blank is one that no command begins with, and no NUL, where the file ends.
-fn has_foreign_begin(bytes: &[u8]) -> bool {
+fn has_foreign_begin(bytes: &[u8]) -> bool
+    ensures { result ≡ begins_foreign bytes.now }
+{
     for byte in bytes {
-        match *byte {
-            b' ' | b'\t' | b'\r' => {}
-            byte => return byte != b'{' && byte != 0,
+        if !is_space(*byte) {
+            return is_foreign_byte(*byte);
         }
     }
     false

@@ -185,8 +185,8 @@ fn do_more<S: Service>(
 /// them, and `total` how many bytes came before them.
 fn ended_bytes(before: u64, total: u64, bytes: &[u8]) -> u64
     requires { total + length bytes.now < 2 ^ 63 }
-    ensures { (seen : List ℕ) → before + length (cut seen).1 ≡ length seen → total ≡ length seen
-        → result + length (cut (seen ++ bytes.now)).1 ≡ length (seen ++ bytes.now) }
+    ensures { (earlier : List ℕ) → before + length (cut earlier).1 ≡ length earlier → total ≡ length earlier
+        → result + length (cut (earlier ++ bytes.now)).1 ≡ length (earlier ++ bytes.now) }
 {
     match whole_lines(bytes) {
         Some(size) => total + size as u64,

@@ -1,17 +1,18 @@
 -- What a driver sees, by the neighbours on the lists.
 use Rattle.std.proofs.Common.{◌≡◌, ℕ, zero, suc, ◌+◌, ◌-◌, ◌<◌, ◌≤◌, Bool, true, false, List, [], ◌∷◌, ◌++◌, length, Option, Some, None, refl, sym, ap, subst, ◌∙◌, inl, inr, arith, ◌&&◌, not, nat_lt, MatchOption, option_map, unwrap_or}
 use Rattle.std.specs.List.{list_all, range_with_len}
-use Rattle.std.proofs.lemmas.Bool.{cases_Bool, cases_lt, both_ways, cond-true, cond-false, lt-ltb, le-ltb}
+use Rattle.std.proofs.lemmas.Bool.{cases_Bool, cases_lt, both_ways, cond-true, cond-false, lt-ltb, le-ltb, or_left}
 use Rattle.std.proofs.lemmas.List.{append_assoc}
 use Rattle.street_yard.specs.Prelude.{Yard, list_at, first_or, last_or, IsWhole, cell_at, rear_at, vehicle_with, key_at, cells_at, IsFalling, IsLane, AllAbove}
 use Rattle.street_yard.proofs.Keys.{snoc_cases, last_or-push}
 use Rattle.street_yard.proofs.YardLemmas.{AllAbove-lower}
-use Rattle.street_base.specs.Prelude.{Vehicle, next_link, Track, vehicle_at, rear, is_covered, is_closed, is_free, are_free, Changing, free_ahead, free_behind, wishes, is_safe, changes}
+use Rattle.street_base.specs.Prelude.{Vehicle, next_link, Track, vehicle_at, rear, is_covered, is_closed, is_free, are_free, is_obstacle, Changing, free_ahead, free_behind, wishes, is_safe, changes}
 use Rattle.street_base.proofs.CoverLemmas.{rear-le, free-uncovered, all-free}
+use Rattle.street_base.proofs.SearchLemmas.{least-to}
 use Rattle.street_gap.specs.Prelude.{entrance_after, lesser}
 use Rattle.street_gap.proofs.Sights.{AllAbove-last, uncovered, obstacle-is, gap-behind-is, clear-of-key}
 use Rattle.street_rule.specs.Prelude.{change_gap_to, change_gap_ahead, change_gap_behind, has_room, has_room_between, wishes_with, decision}
-use Rattle.street_yard.proofs.FallingLists.{falling-below, falling-split, key_at-split, cells-length, seen-key, stands-key, covered-key}
+use Rattle.street_yard.proofs.FallingLists.{falling-below, falling-split, key_at-split, rear-under, cells-length, seen-key, stands-key, covered-key}
 
 -- the track of a list, with these closed marks
 abbrev pub track : Yard → ℕ → ℕ → List Bool → Track
@@ -112,6 +113,31 @@ module _ (y : Yard) (n count : ℕ) (whole : IsWhole y) (lane : IsLane y n count
         | inl clear ↦ by-down down refl (subst (λ o. MatchOption o (Unit {0}) (λ k. x < rear_at y k)) (sym (ap (λ l. last_or l None) s.2 ∙ last_or-push s.0 s.1 None)) clear)
         | inr reach ↦ room-ahead s.1 s.0 s.2 reach
       ]
+    ]
+
+shut-cells : (a b : Bool) → a ≡ false → (a && b) ≡ false
+shut-cells a b e = rw e refl
+
+shut-ahead : (a b c : Bool) → b ≡ false → (a && (b && c)) ≡ false
+shut-ahead true b c e = rw e refl
+shut-ahead false b c e = refl
+
+-- there is no room where a vehicle above the cell has its rear near, whoever is between
+pub no-room-near : (y : Yard) (n count : ℕ) → IsWhole y → IsLane y n count → (us : List ℕ) (u : ℕ) (down : List ℕ) → list_at y n ≡ us ++ u ∷ down → (x : ℕ) → x < cell_at y u
+    → (closed : List Bool) (r speed : ℕ) → r ≤ x → rear_at y u ≤ x + speed + 2 → has_room (track y n count closed) x r speed ≡ false
+no-room-near y n count whole lane us u down split x over closed r speed low near =
+    let falls : IsFalling (cell_at y) count (us ++ u ∷ down) = subst (IsFalling (cell_at y) count) split lane.falls in
+    let inside = (falling-split (cell_at y) count us u down falls).1 in
+    let here : key_at (cell_at y) (list_at y n) (cell_at y u) ≡ Some u = ap (λ l. key_at (cell_at y) l (cell_at y u)) split ∙ key_at-split (cell_at y) count us u down falls in
+    let back = rear-under y u in
+    elim (cases_lt x (rear_at y u)) as (λ _. has_room (track y n count closed) x r speed ≡ false) [
+      | inl clear ↦ (
+          let covered = covered-key y n count whole lane.falls (cell_at y u) u (rear_at y u) here (omega arith) (omega arith) in
+          let size : length (cells_at y n count) ≡ count = cells-length y n count whole lane.falls in
+          let found = least-to (is_obstacle (cells_at y n count) closed) (x + 1) (length (cells_at y n count)) (rear_at y u) (or_left _ _ covered) (omega arith) (omega (arith, size, inside, back)) in
+          let least = found.2 in
+          shut-ahead (are_free (track y n count closed) r x) _ _ (ap (λ o. nat_lt (speed + 1) (unwrap_or (option_map (λ z. z - x - 1) o) 16)) found.1 ∙ le-ltb (speed + 1) (found.0 - x - 1) (omega (arith, near, least))))
+      | inr reach ↦ shut-cells _ _ (blocked (track y n count closed) r x x low (omega arith) (covered-key y n count whole lane.falls (cell_at y u) u x here reach (omega arith)))
     ]
 
 -- the vehicle of a cell changes if the cells beside are free, it wishes to, it is safe and it may

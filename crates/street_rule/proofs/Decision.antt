@@ -1,16 +1,19 @@
 -- What a driver decides, from what the code has looked up.
-use Rattle.std.proofs.Common.{◌≡◌, ℕ, zero, suc, ◌+◌, ◌-◌, ◌<◌, ◌≤◌, Bool, List, [], ◌∷◌, ◌++◌, IsSome, Option, Some, None, refl, sym, ap, subst, ◌∙◌, arith, MatchOption, ◌&&◌, not, option_map}
+use Rattle.std.proofs.Common.{◌≡◌, ℕ, zero, suc, ◌+◌, ◌-◌, ◌<◌, ◌≤◌, Bool, false, List, [], ◌∷◌, ◌++◌, IsSome, Option, Some, None, refl, sym, ap, subst, ◌∙◌, arith, inl, inr, MatchOption, ◌&&◌, not, option_map}
 use Rattle.std.specs.List.{list_all, range_with_len}
+use Rattle.std.proofs.lemmas.List.{append_assoc}
 use Rattle.street_base.specs.declared.car.Car.{Car}
 use Rattle.street_base.specs.Prelude.{Vehicle, vehicle_of, next_link, Track, is_closed, Changing}
-use Rattle.street_yard.specs.Prelude.{YardEntry, Yard, entry_at, car_of, first_or, IsWhole, cell_at, rear_at, vehicle_with, IsFalling}
+use Rattle.street_yard.specs.Prelude.{YardEntry, Yard, list_at, entry_at, car_of, first_or, last_or, IsWhole, cell_at, rear_at, vehicle_with, IsFalling, AllAbove}
+use Rattle.street_yard.proofs.Keys.{snoc_cases, last_or-push}
 use Rattle.street_yard.proofs.YardLemmas.{cell_is, some_car}
 use Rattle.street_yard.proofs.FallingLists.{falling-split}
-use Rattle.street_gap.specs.Prelude.{is_in, closed_marks, entrance_after, are_open, IsWithin, lesser, IsPosition}
+use Rattle.street_gap.specs.Prelude.{is_in, closed_marks, entrance_after, are_open, IsWithin, lesser, IsUpTo, IsPosition}
+use Rattle.street_gap.proofs.Sights.{AllAbove-last}
 use Rattle.street_gap.specs.declared.closures.Stretch.{Stretch}
 use Rattle.street_gap.proofs.Marks.{closed_marks-length, closed_marks-at}
-use Rattle.street_rule.specs.Prelude.{RoadLane, IsRoadLane, track_of, change_gap_to, change_gap_ahead, has_room, has_room_between, wishes_with, decision}
-use Rattle.street_rule.proofs.ChangeSights.{room-is}
+use Rattle.street_rule.specs.Prelude.{RoadLane, IsRoadLane, track_of, change_gap_to, change_gap_ahead, has_room, has_room_between, IsNear, wishes_with, decision}
+use Rattle.street_rule.proofs.ChangeSights.{room-is, no-room-near}
 
 -- the vehicles below the last above fall from the cell on
 under : (y : Yard) (count cell : ℕ) (up down : List ℕ) → IsFalling (cell_at y) count (up ++ down) → MatchOption (first_or down None) (Unit {0}) (λ k. cell_at y k ≤ cell) → IsFalling (cell_at y) (cell + 1) down
@@ -40,6 +43,18 @@ pub room-by : (y : Yard) (count : ℕ) (lane seen : RoadLane) (cell rear speed :
     → ((n : ℕ) → IsRoadLane y n seen → r ≡ has_room (track_of y n seen) cell rear speed) → r ≡ has_room (track_of y count lane) cell rear speed
 room-by y count lane seen cell rear speed r same ok is =
     is count (subst (IsRoadLane y count) (sym same) ok) ∙ ap (λ l. has_room (track_of y count l) cell rear speed) same
+
+-- there is no room where the key from which on to look stands near
+pub shut-by : (y : Yard) (count : ℕ) (lane : RoadLane) (cell rear speed : ℕ) (above : Option ℕ) → IsWhole y → IsRoadLane y count lane → IsUpTo y lane.list cell above → rear ≤ cell → IsNear y above cell speed → has_room (track_of y count lane) cell rear speed ≡ false
+shut-by y count lane cell rear speed above whole ok p low near = elim (snoc_cases p.up) as (λ _. has_room (track_of y count lane) cell rear speed ≡ false) [
+  | inl e ↦ absurd (let bad : ◌≡◌ {A = Option ℕ} None (Some near.0) = sym (p.at_position ∙ ap (λ l. last_or l None) e) ∙ near.1 in cc)
+  | inr s ↦ (
+      let both : ◌≡◌ {A = Option ℕ} (Some s.1) (Some near.0) = sym (p.at_position ∙ ap (λ l. last_or l None) s.2 ∙ last_or-push s.0 s.1 None) ∙ near.1 in
+      let same : near.0 ≡ s.1 = cc in
+      let parts : list_at y lane.list ≡ s.0 ++ s.1 ∷ p.down = p.split ∙ ap (λ l. l ++ p.down) s.2 ∙ append_assoc s.0 (s.1 ∷ []) p.down in
+      let over : cell < cell_at y s.1 = AllAbove-last (cell_at y) cell s.0 s.1 [] (subst (AllAbove (cell_at y) cell) s.2 p.above) in
+      no-room-near y lane.list count whole ok.stands s.0 s.1 p.down parts cell over (closed_marks lane.closed count) rear speed low (subst (λ k. rear_at y k ≤ cell + speed + 2) same near.2))
+]
 
 -- the car of an entry
 pub its_car : (y : Yard) (key : ℕ) → IsSome (entry_at y key) → (car : Car) × (car_of y key ≡ Some car)

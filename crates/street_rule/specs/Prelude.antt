@@ -8,5 +8,5 @@ pub use Rattle.street_rule.specs.Pass.{Drives, HasMoved, IsExit, Leaves, MovesAl
 pub use Rattle.street_rule.specs.Relinked.{Carries, HasNoMarks, IsFallen, IsOnEither, KeepsOthers, Relinks, is_marked, is_unmarked, put_all, put_falling}
 pub use Rattle.street_rule.specs.Road.{IsRoad, IsRoadLane, Road, RoadLane, lane_of, lane_seen, length_of, lists_of, no_lane, track_of}
 pub use Rattle.street_rule.specs.Sight.{Decides, DecidesAt, IsOutlook, TellsRoom, changing_of, decision, change_gap_to, change_gap_behind, change_gap_ahead, has_room}
-pub use Rattle.street_rule.specs.Sight.{has_room_between, odds_of, wishes_with}
+pub use Rattle.street_rule.specs.Sight.{IsNear, has_room_between, odds_of, wishes_with}
 pub use Rattle.street_rule.specs.Watch.{HasRoom, IsReady, noted, watched}

@@ -9,7 +9,7 @@ use Rattle.street_rule.specs.Odds.{Odds}
 use Rattle.street_gap.specs.Prelude.{entrance_after, closed_marks, lesser}
 use Rattle.street_rule.specs.Road.{Road, RoadLane, lane_of, lane_seen, length_of, track_of, IsRoadLane}
 use Rattle.street_rule.specs.declared.sight.Outlook.{Outlook}
-use Rattle.street_yard.specs.Prelude.{Yard, cell_at, vehicle_with}
+use Rattle.street_yard.specs.Prelude.{Yard, cell_at, rear_at, vehicle_with}
 
 -- the seed, the dawdle odds and the lane change odds that the load of a network gave
 abbrev pub odds_of : NetSpec → Odds
@@ -76,6 +76,10 @@ decision_of y road lane step closed ahead key v =
 -- speed + 1, gap behind above 5), however many cells the lane's list stands for
 abbrev pub TellsRoom : Yard → RoadLane → ℕ → ℕ → ℕ → Bool → Type 0
 TellsRoom y lane x r speed fits = (count : ℕ) → IsRoadLane y count lane → fits ≡ has_room (track_of y count lane) x r speed
+
+-- that there is a key `above`, whose vehicle's rear is at most two cells further from cell x than the speed
+abbrev pub IsNear : Yard → Option ℕ → ℕ → ℕ → Type 0
+IsNear y above x speed = (k : ℕ) × (above ≡ Some k) × (rear_at y k ≤ x + speed + 2)
 
 -- that an outlook is of lane 0 or 1 of the road, with that lane's list and closed cells (none where `has_closed` is
 -- false), and that its `zone` is the cell where the turn zone begins, 0 where the zone is longer than the lane

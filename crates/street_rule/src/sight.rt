@@ -2,14 +2,14 @@
 //! What a driver sees on one lane is reckoned by `street_gap`.
 //!
 //! Source: Rickert, Nagel, Schreckenberg and Latour 1996.
-ghost use Rattle.std.specs.Prelude.{◌≡◌, ℕ, ◌<◌, ◌≤◌, ◌+◌, ◌-◌, nat_lt, Option, length, Some, not, false};
+ghost use Rattle.std.specs.Prelude.{◌≡◌, ℕ, ◌<◌, ◌≤◌, ◌+◌, ◌-◌, nat_lt, Option, length, Some, IsSome, not, true, false, option_map};
 ghost use Rattle.std.specs.Option.{option_map_or};
 ghost use Rattle.street_base.specs.declared.names.Place.{Place};
-ghost use Rattle.street_base.specs.Prelude.{serves};
-ghost use Rattle.street_yard.specs.Prelude.{list_on, cell_at};
-ghost use Rattle.street_gap.specs.Prelude.{IsUpTo, IsPosition};
+ghost use Rattle.street_base.specs.Prelude.{serves, vehicle_of, next_link};
+ghost use Rattle.street_yard.specs.Prelude.{list_on, entry_at, car_of, cell_at};
+ghost use Rattle.street_gap.specs.Prelude.{HasCar, IsUpTo, IsPosition};
 ghost use Rattle.street_rule.specs.Prelude.{length_of, lane_of, lane_seen, IsRoad, odds_of, changing_of};
-ghost use Rattle.street_rule.specs.Prelude.{change_gap_to, wishes_with, TellsRoom, Decides, DecidesAt, IsOutlook};
+ghost use Rattle.street_rule.specs.Prelude.{change_gap_to, wishes_with, TellsRoom, IsNear, Decides, DecidesAt, IsOutlook};
 
 use crate::Dice;
 use crate::road::{Road, RoadLane};
@@ -88,22 +88,27 @@ fn is_unserved(road: &Road<'_>, lane: LaneNo, next: Option<LinkIx>) -> bool
 }
 
 /// Whether a vehicle with this obstacle ahead may want the other lane at all: it is slow, or its lane does not serve its next
-/// link in the turn zone, which begins with the cell `zone`. Whether the other lane serves it is not asked yet. All is
-/// reckoned, for one branch on the answer.
+/// link in the turn zone, which begins with the cell `zone`. Whether the other lane serves it is not asked yet. The lane's
+/// turns are asked in the zone alone, of those who are not slow: on a long lane few come so far.
 fn may_wish(
+    yard: &Yard,
     road: &Road<'_>,
     lane: LaneNo,
     zone: CellNo,
     obstacle: Option<CellNo>,
     cell: CellNo,
     speed: Speed,
-    next: Option<LinkIx>,
+    key: Key,
 ) -> bool
     requires zone { zone ≡ length_of road.now - road.now.network.zone }
-    ensures { (step : ℕ) → result ≡ false
+    requires key { IsSome (entry_at yard.now key) }
+    ensures { (step : ℕ) (next : Option ℕ) → option_map (λ c. next_link (vehicle_of c)) (car_of yard.now key) ≡ Some next → result ≡ false
         → wishes_with (changing_of road.now step) lane (length_of road.now) (change_gap_to obstacle cell) cell speed next ≡ false }
 {
-    is_slow(obstacle, cell, speed) | ((zone <= cell) & is_unserved(road, lane, next))
+    if is_slow(obstacle, cell, speed) {
+        return true;
+    }
+    zone <= cell && is_unserved(road, lane, yard.next_link(key))
 }
 
 /// Whether another lane has room for a vehicle of this speed, beside its cells from its front `cell` to its rear: no cell
@@ -128,6 +133,18 @@ fn fits(
     closures.is_open(rear, cell)
         && CellNo::from(speed) + 1 < gap_beside(yard, closures, list, *above, cell).unwrap_or(FAR)
         && CLOSE_BEHIND < gap_behind(yard, list, *above, rear).unwrap_or(FAR)
+}
+
+/// Whether the vehicle of a key of the other lane, `above`, which is above the cell there, stands so near that there is no room
+/// ahead for one of this speed in the cell beside, whoever else may be between; no where there is no key.
+fn is_shut(yard: &Yard, above: &Option<Key>, cell: CellNo, speed: Speed) -> bool
+    requires { HasCar yard.now above.now }
+    ensures { result ≡ true → IsNear yard.now above.now cell speed }
+{
+    match above {
+        Some(key) => yard.rear(*key).saturating_sub(cell) <= CellNo::from(speed) + 2,
+        None => false,
+    }
 }
 
 /// What a driver decides, and where they have looked.
@@ -156,8 +173,8 @@ pub(crate) struct Outlook<'a> {
 
 /// Whether the vehicle of a key, with this gap ahead (in cells), goes to the other lane, as [`decide`] tells it of a vehicle
 /// that [`may_wish`] lets want it; `above` is as there. Room is looked for before the turns of the lanes, which lie farther
-/// away in memory; the draw is asked last. It stands apart from the walk, since most vehicles do not come here.
-#[inline(never)]
+/// away in memory; the draw is asked last.
+#[inline]
 fn decide_beside(
     yard: &Yard,
     road: &Road<'_>,
@@ -195,7 +212,7 @@ fn decide_beside(
 /// Whether the vehicle of a key goes to the other lane in the step: it wants to, has room there, and its draw lets it. Nobody
 /// moves. `ahead` is the rear of the vehicle ahead; `above` is a key of the other lane whose vehicle is above the cell beside,
 /// from which on to look there, or `None` to look from the front. The answer has such a key for the next driver too. Nothing of
-/// the other lane is read where [`may_wish`] is false.
+/// the other lane is read where [`may_wish`] is false, and of that key alone where it [is shut](is_shut).
 pub(crate) fn decide(
     yard: &Yard,
     road: &Road<'_>,
@@ -219,14 +236,19 @@ pub(crate) fn decide(
     let speed = yard.speed(key);
     let obstacle = obstacle_ahead(outlook.own.closures, outlook.has_closed, ahead, cell);
     if !may_wish(
+        yard,
         road,
         outlook.lane,
         outlook.zone,
         obstacle,
         cell,
         speed,
-        yard.next_link(key),
+        key,
     ) {
+        return Decision { above, goes: false };
+    }
+    yard.whole();
+    if is_shut(yard, &above, cell, speed) {
         return Decision { above, goes: false };
     }
     let gap = cells_up_to(obstacle, cell).unwrap_or(FAR);

@@ -1,5 +1,5 @@
 -- How the program tells its faults.
-use Rattle.std.specs.Prelude.{◌≡◌, ◌++◌, ◌⊎◌, ℕ, List, Option, Some, codes}
+use Rattle.std.specs.Prelude.{◌≡◌, ◌++◌, ◌⊎◌, ℕ, List, codes}
 use Rattle.std.specs.Fmt.{decimal}
 use Rattle.std.specs.Borrow.{Bor}
 use Rattle.std.specs.IoError.{error_kind}
@@ -94,8 +94,3 @@ LacksMemory error = error_kind error ≡ io.OutOfMemory
 -- that `fault` is `otherwise`, the one that is given for a file, or lack of memory
 abbrev pub IsFileFault : ProgramFault → ProgramFault → Type 0
 IsFileFault otherwise fault = (fault ≡ OutOfMemory) ⊎ (fault ≡ otherwise)
-
--- that the fault is of writing the tape that was asked for by this name, or of memory; where no tape was asked for
--- there is no such fault
-abbrev pub IsTapeFault : Option (Bor (List ℕ)) → ProgramFault → Type 0
-IsTapeFault asked fault = (name : Bor (List ℕ)) × (asked ≡ Some name) × IsFileFault (Write name) fault

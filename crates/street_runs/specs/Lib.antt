@@ -5,5 +5,6 @@ pub mod Outputs
 pub mod Replays
 pub mod Scripts
 pub mod Ends
+pub mod Taped
 pub mod Told
 pub mod KeptRecords

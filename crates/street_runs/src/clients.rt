@@ -9,11 +9,13 @@ ghost use Rattle.street_line.specs.Sessions.{IsAlone};
 ghost use Rattle.street_line.specs.Streams.{AloneServesLines};
 ghost use Rattle.street_runs.specs.Outputs.{IsBegun, IsPrinted, TellsOutput, replies_of};
 ghost use Rattle.street_runs.specs.Scripts.{AreOpened, ArePassesFrom, ArePlayed, AreRun, IsFirstFault, Tells};
+ghost use Rattle.street_runs.specs.Taped.{InputTaped, ScriptsTaped};
 ghost use Rattle.street_runs.specs.Words.{IsInRange};
 ghost use Rattle.street_stream.specs.Streams.{HasFailed, IsFlushed, IsFresh, IsPrompt};
 
 use crate::engines::staying_engine;
-use crate::outputs::{STANDARD_INPUT, STANDARD_OUTPUT, keep_tape, pass_on, write_out};
+use crate::outputs::{pass_on, write_out};
+use crate::taped::{TapeFile, TapeOpener, end_session, told_run};
 use crate::{ProgramFault, ProgramOptions};
 use std::alloc::Global;
 use std::fs::File;
@@ -44,22 +46,57 @@ pub fn serve_input<'a, R: Threads + Wait + Sync + Input + Print + AllocGlobal + 
     };
     let mut reader = Counted::new(rt.reader());
     let mut writer = Counted::new(output);
-    let (run, desk, pass) = serve_alone(
+    let opener = TapeFile { rt, scripts: &[] };
+    let (served, _tape) = serve_to_tape(
         rt,
         alloc,
         options.workers,
         options.calls,
         &mut reader,
         &mut writer,
+        &opener,
+        options.tape,
     )?;
-    let served = match run {
-        Ok(_tally) => Ok(()),
-        Err(fault) => Err(ProgramFault::of_run(fault.kind, STANDARD_INPUT, STANDARD_OUTPUT)),
-    };
+    served
+}
+
+/// Serves the lines of a text at a desk as [`serve_alone`] does, then flushes, and writes the tape of that session, if one of this name
+/// is asked for. The fault is the session's, else the tape's. What the tape was written to is given back.
+///
+/// # Errors
+///
+/// No memory for the desk: nothing was read or written.
+pub fn serve_to_tape<
+    'a,
+    R: Threads + Wait + Sync,
+    D: Read,
+    W: Write,
+    T: Write + Drop,
+    O: TapeOpener<T>,
+>(
+    rt: &R,
+    alloc: Global,
+    workers: u32,
+    calls: u64,
+    reader: &mut Counted<D>,
+    writer: &mut Counted<W>,
+    opener: &O,
+    name: Option<&'a str>,
+) -> Result<(Result<(), ProgramFault<'a>>, Option<Counted<T>>), Starved>
+    requires workers { (1 ≤ workers) × (workers ≤ most_workers) }
+    requires calls { (1 ≤ calls) × (calls ≤ most_calls) }
+    requires reader { IsFresh reader.old }
+    requires writer { IsFresh writer.old }
+    ensures taped { IfOk result (λ r. InputTaped T.contents (O.start opener.now) (O.fails opener.now) D.remaining W.contents calls
+        reader.old reader.new writer.old writer.new name.entry r.0 r.1) }
+    ensures prompt { OnOk result (IsPrompt reader.new) }
+    ensures starved { OnErr result ((reader.new ≡ reader.old) × (writer.new ≡ writer.old)) }
+{
+    let (run, desk, pass) = serve_alone(rt, alloc, workers, calls, reader, writer)?;
+    let served = told_run(&run);
     // After a fault it holds the replies to the lines that came in the last read.
     let _ = writer.flush();
-    let taped = keep_tape(rt, alloc, desk, pass, options.tape, &[]);
-    served.and(taped)
+    Ok(end_session(alloc, served, desk, pass, opener, name))
 }
 
 /// Serves the lines of a text as the one session of a new desk, with a place for so many calls, as [`run_alone`] does from nothing
@@ -109,17 +146,55 @@ pub fn serve_scripts<'a, R: Threads + Wait + Sync + Print + AllocGlobal + Files<
 {
     let alloc = rt.alloc();
     let mut writer = Counted::new(io::writer(rt));
-    let (served, desk, pass) = serve_named(
+    let opener = TapeFile {
+        rt,
+        scripts: options.scripts.as_slice(),
+    };
+    let (served, _tape) = play_to_tape(
         rt,
         alloc,
         options.workers,
         options.calls,
         options.scripts.as_slice(),
         &mut writer,
+        &opener,
+        options.tape,
     )?;
-    let scripts = options.scripts.as_slice();
-    let taped = keep_tape(rt, alloc, desk, pass, options.tape, scripts);
-    served.and(taped)
+    served
+}
+
+/// Serves scripts at a desk as [`serve_named`] does, and writes the desk's tape, if one of this name is asked for. The fault is the
+/// first of the scripts or of the writer, else the tape's. What the tape was written to is given back.
+///
+/// # Errors
+///
+/// No memory for the desk or the scripts: no line was served, and nothing was written.
+pub fn play_to_tape<
+    'a,
+    R: Threads + Wait + Sync + Files<File = File>,
+    W: Write,
+    T: Write + Drop,
+    O: TapeOpener<T>,
+>(
+    rt: &R,
+    alloc: Global,
+    workers: u32,
+    calls: u64,
+    names: &[&'a str],
+    writer: &mut Counted<W>,
+    opener: &O,
+    name: Option<&'a str>,
+) -> Result<(Result<(), ProgramFault<'a>>, Option<Counted<T>>), Starved>
+    requires workers { (1 ≤ workers) × (workers ≤ most_workers) }
+    requires calls { (1 ≤ calls) × (calls ≤ most_calls) }
+    requires names { (1 ≤ length names.now) × (length names.now ≤ most_sessions) }
+    requires writer { IsFresh writer.old }
+    ensures taped { IfOk result (λ r. ScriptsTaped T.contents (O.start opener.now) (O.fails opener.now) R W.contents calls names.now
+        writer.old writer.new name.entry r.0 r.1) }
+    ensures starved { OnErr result (writer.new ≡ writer.old) }
+{
+    let (served, desk, pass) = serve_named(rt, alloc, workers, calls, names, writer)?;
+    Ok(end_session(alloc, served, desk, pass, opener, name))
 }
 
 /// Serves each script as a session of a new desk, and writes their replies. It returns what went wrong first, the desk, and

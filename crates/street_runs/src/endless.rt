@@ -8,15 +8,15 @@ ghost use Rattle.street_stream.specs.Streams.{IsFlushed, IsFresh, IsPrompt};
 
 use crate::ProgramFault;
 use crate::engines::staying_engine;
-use crate::outputs::{STANDARD_INPUT, STANDARD_OUTPUT};
+use crate::taped::told_run;
 use std::alloc::Global;
 use std::io;
 use std::io::{BufWriter, Read, Write};
 use std::sync::Wait;
 use std::thread::Threads;
 use street_base::Starved;
-use street_engine::{Crew, Engine, StartedCrew, StayingCrew, Unwatched};
-use street_line::{Counted, EngineSession, RunFault, Tally, run_engine};
+use street_engine::{Crew, Engine, StartedCrew, StayingCrew, Unrecorded, Unwatched};
+use street_line::{Counted, RunFault, Session, Tally, run_session};
 
 /// Serves standard input by an engine alone, with up to so many workers, 1 to 64, and writes each reply as it comes. No call is
 /// kept, so there is no end of calls.
@@ -57,10 +57,7 @@ pub fn serve_endless<R: Threads + Wait + Sync + Input + Print + AllocGlobal>(
     };
     // After a fault it holds the replies to the lines that came in the last read.
     let _ = writer.flush();
-    match run {
-        Ok(_tally) => Ok(()),
-        Err(fault) => Err(ProgramFault::of_run(fault.kind, STANDARD_INPUT, STANDARD_OUTPUT)),
-    }
+    told_run(&run)
 }
 
 /// Serves lines to their end by an engine with nothing loaded, whose steps this crew makes: what is written is what the machine says to
@@ -69,7 +66,7 @@ pub fn serve_endless<R: Threads + Wait + Sync + Input + Print + AllocGlobal>(
 ///
 /// # Errors
 ///
-/// Those of [`run_engine`].
+/// Those of [`run_session`].
 pub fn serve_by<C: Crew + Drop, D: Read, W: Write>(
     alloc: Global,
     crew: C,
@@ -87,6 +84,6 @@ pub fn serve_by<C: Crew + Drop, D: Read, W: Write>(
     ensures prompt { IsPrompt reader.new }
     ensures flushed { OnOk result (IsFlushed writer.new) }
 {
-    let mut session = EngineSession::new(crew, engine);
-    run_engine(alloc, &mut session, reader, writer)
+    let mut session = Session::new(crew, engine, Unrecorded);
+    run_session(alloc, &mut session, reader, writer)
 }

@@ -25,10 +25,10 @@ use std::io::{Read, Write};
 use std::rt::Files;
 use std::sync::Wait;
 use std::thread::Threads;
-use street_engine::{Crew, Engine, StartedCrew, StayingCrew, Unwatched};
+use street_engine::{Crew, Engine, StartedCrew, StayingCrew, Unrecorded, Unwatched};
 use street_line::{
-    BeginFault, Counted, EngineSession, KeptFault, KeptFile, KeptNotices, RedoFault, RedoneLines,
-    ServeFault, keep_engine,
+    BeginFault, Counted, KeptFault, KeptFile, KeptNotices, RedoFault, RedoneLines, ServeFault,
+    Session, run_session_on,
 };
 
 /// Opens the file of this name, does its lines first, and then serves standard input as a session that is kept there, as [`keep_session`]
@@ -124,7 +124,7 @@ fn check_record<'a, R: Files<File = File>>(
 ///
 /// # Errors
 ///
-/// Those of [`keep_engine`].
+/// Those of [`run_session_on`].
 pub fn keep_session<R: Threads + Wait + Sync, K: KeptFile, N: KeptNotices, D: Read, W: Write>(
     rt: &R,
     alloc: Global,
@@ -174,7 +174,7 @@ pub fn keep_session<R: Threads + Wait + Sync, K: KeptFile, N: KeptNotices, D: Re
 ///
 /// # Errors
 ///
-/// Those of [`keep_engine`].
+/// Those of [`run_session_on`].
 fn keep_by<C: Crew + Drop, K: KeptFile, N: KeptNotices, D: Read, W: Write>(
     alloc: Global,
     crew: C,
@@ -196,8 +196,8 @@ fn keep_by<C: Crew + Drop, K: KeptFile, N: KeptNotices, D: Read, W: Write>(
     ensures prompt { IsPrompt reader.new }
     ensures flushed { OnOk result (IsFlushed writer.new) }
 {
-    let mut session = EngineSession::new(crew, engine);
-    keep_engine(alloc, &mut session, file, notes, reader, writer)
+    let mut session = Session::new(crew, engine, Unrecorded);
+    run_session_on(alloc, &mut session, file, notes, reader, writer)
 }
 
 /// The fault of the program where a session that goes on from the file of this name ended so.

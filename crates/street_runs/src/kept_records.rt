@@ -11,10 +11,9 @@ use std::alloc::Global;
 use std::io::{Read, Write};
 use std::sync::Wait;
 use std::thread::Threads;
-use street_engine::{Crew, Engine, StartedCrew, StayingCrew, Unwatched};
+use street_engine::{Crew, Engine, StartedCrew, StayingCrew, Unrecorded, Unwatched};
 use street_line::{
-    BeginFault, Counted, EngineSession, KeptFault, KeptFile, KeptNotices, RecordedSession,
-    RedoneLines, begin_on, run_on,
+    BeginFault, Counted, KeptFault, KeptFile, KeptNotices, RedoneLines, Session, begin_on, run_on,
 };
 use street_record::RecordWriter;
 
@@ -148,7 +147,7 @@ fn keep_by<
     ensures prompt { IsPrompt reader.new }
     ensures flushed { OnOk result.0 (IsFlushed writer.new) }
 {
-    let mut session = EngineSession::new(crew, engine);
+    let mut session = Session::new(crew, engine, Unrecorded);
     let redo = match begin_on(alloc, &mut session, file, notes) {
         Ok(redo) => redo,
         Err(fault) => return (Err(RecordedFault::Begin(fault)), None),
@@ -157,10 +156,12 @@ fn keep_by<
         Ok(recorder) => recorder,
         Err(fault) => return (Err(RecordedFault::Open(fault)), None),
     };
-    let (crew, engine) = session.into_parts();
-    let mut session = RecordedSession::new(crew, engine, recorder);
-    match run_on(alloc, &mut session, file, reader, writer) {
-        Ok(()) => (Ok(redo), session.into_writer()),
-        Err(fault) => (Err(RecordedFault::Session(fault)), session.into_writer()),
+    let (crew, engine, _) = session.into_parts();
+    let mut session = Session::new(crew, engine, recorder);
+    let run = run_on(alloc, &mut session, file, reader, writer);
+    let (_, _, recorder) = session.into_parts();
+    match run {
+        Ok(()) => (Ok(redo), recorder),
+        Err(fault) => (Err(RecordedFault::Session(fault)), recorder),
     }
 }

@@ -24,10 +24,13 @@ mod reasons;
 mod recorded;
 mod renewal;
 mod streams;
+mod taped;
 mod tapes;
 mod words;
 
-pub use clients::{serve_alone, serve_input, serve_named, serve_scripts};
+pub use clients::{
+    play_to_tape, serve_alone, serve_input, serve_named, serve_scripts, serve_to_tape,
+};
 pub use command_line::options;
 pub use endless::{serve_by, serve_endless};
 pub use fault::ProgramFault;
@@ -38,5 +41,6 @@ pub use one_file::check_files;
 pub use outputs::{STANDARD_ERROR, STANDARD_OUTPUT, end_with_tape};
 pub use reasons::reason;
 pub use recorded::{record_by, serve_recorded};
+pub use taped::TapeOpener;
 pub use tapes::{replay_and_count, replay_tape, upgrade_tape};
 pub use words::{ProgramOptions, WordsFault};

@@ -2,7 +2,7 @@
 ghost use Rattle.std.specs.Io.KnownBytes.{Appends, Keeps};
 ghost use Rattle.std.specs.Prelude.{◌≡◌, OnOk, OnErr, IfErr};
 ghost use Rattle.street_runs.specs.Ends.{IsTaped, StopsTape, TellsWriting};
-ghost use Rattle.street_runs.specs.Faults.{IsFileFault, IsTapeFault, LacksMemory};
+ghost use Rattle.street_runs.specs.Faults.{IsFileFault, LacksMemory};
 ghost use Rattle.street_runs.specs.Outputs.{IsBegun, TellsOutput};
 ghost use Rattle.street_runs.specs.declared.fault.ProgramFault.TheVariants.{OutOfMemory, Read, Write};
 ghost use Rattle.street_stream.specs.Streams.{HasFailed, IsFlushed, IsFresh};
@@ -80,30 +80,6 @@ pub fn print_text<W: Write>(
 {
     write_out(writer, text)?;
     pass_on(writer)
-}
-
-/// Ends the desk and writes its tape to a new file of this name, in the place of one that is there. With no name no tape is asked
-/// for, and none is written. The scripts are those whose calls are on it.
-///
-/// # Errors
-///
-/// `Write` with the file's name, or `OutOfMemory`.
-pub fn keep_tape<'a, R: Files<File = File>>(
-    rt: &R,
-    alloc: Global,
-    desk: Desk<Unwatched>,
-    pass: Pass<Unwatched>,
-    name: Option<&'a str>,
-    scripts: &[&str],
-) -> Result<(), ProgramFault<'a>>
-    requires { pass.desk ≡ desk }
-    ensures { IfErr result (IsTapeFault name.entry) }
-{
-    let Some(name) = name else {
-        return Ok(());
-    };
-    let file = create_file(rt, name, scripts)?;
-    end_with_tape(alloc, desk, pass, &mut Counted::new(file), name)
 }
 
 /// Ends the desk by the pass that has seen all, and writes its journal as a tape; faults tell this name. A desk that was left

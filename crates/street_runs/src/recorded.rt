@@ -10,9 +10,10 @@ ghost use Rattle.street_stream.specs.Streams.{IsFlushed, IsFresh, IsPrompt};
 use crate::ProgramFault;
 use crate::engines::staying_engine;
 use crate::kept_records::{OpenFault, RecordOpener};
-use crate::outputs::{STANDARD_INPUT, STANDARD_OUTPUT, create_file};
+use crate::outputs::create_file;
 use crate::places::Place;
 use crate::streams::hold_streams;
+use crate::taped::told_run;
 use std::alloc::Global;
 use std::fs::File;
 use std::io;
@@ -22,7 +23,7 @@ use std::sync::Wait;
 use std::thread::Threads;
 use street_base::Starved;
 use street_engine::{Crew, Engine, StartedCrew, StayingCrew, Unwatched};
-use street_line::{Counted, RecordedSession, RunFault, Tally, run_recorded};
+use street_line::{Counted, RunFault, Session, Tally, run_session};
 use street_record::RecordWriter;
 
 /// Serves standard input by an engine alone, with up to so many workers, 1 to 64, and writes the record of its steps to a new file of
@@ -60,10 +61,7 @@ pub fn serve_recorded<
     if has_failed(&recorder) {
         return Err(ProgramFault::Write(name));
     }
-    match run {
-        Ok(_tally) => Ok(()),
-        Err(fault) => Err(ProgramFault::of_run(fault.kind, STANDARD_INPUT, STANDARD_OUTPUT)),
-    }
+    told_run(&run)
 }
 
 /// What writes a record to a new file of this name, in the place of one that is there, or to a FIFO, which waits for its reader. It
@@ -129,7 +127,7 @@ pub(crate) fn has_failed<F: Write + Drop>(recorder: &Option<RecordWriter<F>>) ->
 ///
 /// # Errors
 ///
-/// Those of [`run_recorded`].
+/// Those of [`run_session`].
 pub fn record_by<C: Crew + Drop, F: Write + Drop, D: Read, W: Write>(
     alloc: Global,
     crew: C,
@@ -151,7 +149,8 @@ pub fn record_by<C: Crew + Drop, F: Write + Drop, D: Read, W: Write>(
     ensures prompt { IsPrompt reader.new }
     ensures flushed { OnOk result.0 (IsFlushed writer.new) }
 {
-    let mut session = RecordedSession::new(crew, engine, recorder);
-    let run = run_recorded(alloc, &mut session, reader, writer);
-    (run, session.into_writer())
+    let mut session = Session::new(crew, engine, recorder);
+    let run = run_session(alloc, &mut session, reader, writer);
+    let (_, _, recorder) = session.into_parts();
+    (run, recorder)
 }

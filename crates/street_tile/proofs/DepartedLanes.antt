@@ -4,8 +4,7 @@ use Rattle.std.proofs.lemmas.Bool.{cases_eq, cases_lt}
 use Rattle.std.proofs.lemmas.Option.{slice_get_within, slice_get-get_or, get_or_from_slice_get}
 use Rattle.street_base.specs.declared.names.Place.{Place}
 use Rattle.street_base.specs.Prelude.{Traffic, LaneState, no_lane, lane_at, departed_lane}
-use Rattle.street_lanes.specs.Prelude.{LaneView, LaneStands, Lanes, Same, GoesAt, lane_of, LanesGo, HasNobodyWaiting}
-use Rattle.street_lanes.proofs.DepartedLane.{departed-nobody}
+use Rattle.street_lanes.specs.Prelude.{LaneView, LaneStands, Lanes, Same, GoesAt, lane_of, LanesGo, StaysAt}
 use Rattle.street_tile.specs.Prelude.{DepartAll}
 use Rattle.street_tile.proofs.SameLanes.{same-long}
 
@@ -26,18 +25,14 @@ departed-next clock old k now after d goes = record {
   rest = λ j above. goes.others j (λ e. absurd (omega arith)) ∙ d.rest j (omega arith);
 }
 
-nobody-departs : (clock : ℕ) (x : LaneView) (s : LaneState) → LaneStands x s → HasNobodyWaiting x → departed_lane clock s ≡ s
-unfolding LaneStands
-nobody-departs clock x s stands nobody = departed-nobody clock s (sym stands.waiting ∙ nobody)
-
--- the lanes from k on and before j, on which nobody waits
-pub departed-over : (clock : ℕ) (old : Lanes) (k j : ℕ) (now : Lanes) → k ≤ j → ((i : ℕ) → k ≤ i → i < j → HasNobodyWaiting (lane_of now i)) → DepartedTo clock old k now → DepartedTo clock old j now
+-- the lanes from k on and before j, on which nobody departs
+pub departed-over : (clock : ℕ) (old : Lanes) (k j : ℕ) (now : Lanes) → k ≤ j → ((i : ℕ) → k ≤ i → i < j → StaysAt clock (lane_of now i)) → DepartedTo clock old k now → DepartedTo clock old j now
 departed-over clock old k j now le nobody d = record {
   done = λ i s below stands. elim (cases_lt i k) as (λ _. LaneStands (lane_of now i) (departed_lane clock s)) [
     | inl sooner ↦ d.done i s sooner stands
     | inr later ↦ (
         let here : LaneStands (lane_of now i) s = subst (λ (x : LaneView). LaneStands x s) (sym (d.rest i later)) stands in
-        subst (LaneStands (lane_of now i)) (sym (nobody-departs clock (lane_of now i) s here (nobody i later below))) here)
+        subst (LaneStands (lane_of now i)) (sym (nobody i later below s here)) here)
   ];
   rest = λ i above. d.rest i (omega arith);
 }

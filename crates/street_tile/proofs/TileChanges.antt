@@ -127,6 +127,11 @@ module _ (net : NetSpec) (m : Traffic) (on : IsOn net m) (roads : IsRoads net) (
       next : n + 1 ≡ suc n
       next = omega arith
 
+  -- lanes that begin no pair
+  pub changed-past : (k j : ℕ) (now : Lanes) → k ≤ j → j ≤ length old.places
+      → ((i : ℕ) → k ≤ i → i < j → (place_at old i).lane ≡ 0 → (link_at net (place_at old i).link).lanes ≡ 2 → ⊥) → ChangedTo k now → ChangedTo j now
+  changed-past k j now le within none d = over-gap (λ i. ChangedTo i now) k j le (λ i above below before. changed-kept i now (omega arith) (none i above below) before) d
+
   -- a pair
   pub changed-next : (n : ℕ) (now after : Lanes) → n < length old.places → (place_at old n).lane ≡ 0 → (link_at net (place_at old n).link).lanes ≡ 2 → ChangedTo n now → Same now after
       → ((a b : LaneState) → LaneStands (lane_of now n) a → LaneStands (lane_of now (n + 1)) b → LaneStands (lane_of after n) (with_cells a (changed_cells (changing_on m (place_at old n).link) 0 a.track b.track)))

@@ -2,9 +2,9 @@
 use Rattle.std.specs.Prelude.{◌≡◌, ◌+◌, ◌*◌, ◌≤◌, map, length, false, vec_capacity}
 use Rattle.street_tile.specs.declared.tile.Tile.TheInside.{Inside}
 use Rattle.street_tile.specs.Halves.{vehicle_in}
-use Rattle.street_tile.specs.Tiles.{TileView, AreNumbers, AreBare, AreDue}
+use Rattle.street_tile.specs.Tiles.{TileView, AreNumbers, AreNextPairs, AreBare, AreDue}
 
--- what contracts see of the fields of a tile: all that it keeps, but for its table of own numbers and `has_meters`; of
+-- what contracts see of the fields of a tile: all that it keeps, but for its tables of own numbers and next pairs and `has_meters`; of
 -- each transfer that comes only the vehicle
 abbrev pub seen : Inside → TileView
 seen t = record {
@@ -23,11 +23,12 @@ seen t = record {
 }
 
 -- that a tile's arrays are wide enough: a signal plan or none for each node, two mouths a link, each own lane's number
--- at its slot, 2 * link + lane; an entry of who comes for each own lane, and memory for at least one hand-over, arrival
+-- at its slot, 2 * link + lane, and the next one behind it that begins a link of two lanes; an entry of who comes for each own lane, and memory for at least one hand-over, arrival
 -- and row each
 pub record IsWideEnough (t : Inside) : Type 0 where
   pub nodes : t.low + length t.signals.items ≡ t.high
   pub numbered : AreNumbers t.links t.own.places t.numbers.items
+  pub pairs : AreNextPairs t.own.places t.next_pairs.items
   pub mouths : length t.mouths.items ≡ 2 * t.links
   pub coming : length t.coming ≡ length t.own.places
   pub handed : length t.own.places ≤ vec_capacity t.handed

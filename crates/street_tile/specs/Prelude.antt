@@ -14,7 +14,7 @@ pub use Rattle.street_tile.specs.Steps.{MayStep, Steps}
 pub use Rattle.street_tile.specs.TileDetectors.{AllMetersStand, HaveNoted, HaveWatched, KeepMeters, MetersStand, PlacesMeter, bare, detectors_at}
 pub use Rattle.street_tile.specs.TileDetectors.{detectors_on, no_detectors}
 unfoldable pub use Rattle.street_tile.specs.TileDetectors.{noted_by}
-pub use Rattle.street_tile.specs.Tiles.{AllStand, AreBare, AreDue, AreNumbers, ArePairs, AreTiles, BeginsLink, Each, IsBare, IsIdle, IsPrepared, IsRoads, IsShare}
+pub use Rattle.street_tile.specs.Tiles.{AllStand, AreBare, AreDue, AreNextPairs, AreNumbers, ArePairs, AreTiles, BeginsLink, BeginsNoPair, Each, IsBare, IsIdle, IsPrepared, IsRoads, IsShare}
 pub use Rattle.street_tile.specs.Tiles.{IsStill, IsTileOf, TileView, SameTile, ShowSignals, Shows, ShowsOwn, TileStandsFor, beside, is_own, lanes_beside}
 pub use Rattle.street_tile.specs.Tiles.{no_network, nobody, nth, own_places, sizes_of}
 pub use Rattle.street_tile.specs.Together.{AreKept, HaveStepped, NobodyArrived, OwnsLink, PreparesOne, SameButArrived, TakesArrival, TakesArrivalOf, TileHasNot}

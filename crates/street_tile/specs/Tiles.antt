@@ -106,6 +106,18 @@ pub record ArePairs (net : NetSpec) (ps : List Place) : Type 0 where
   pub next : (n : ℕ) → n < length ps → (nth ps n).lane ≡ 0 → lanes_beside net (nth ps n) ≡ 2 → (suc n < length ps) × (nth ps (suc n) ≡ beside (nth ps n) 1)
   pub before : (n : ℕ) → suc n < length ps → ((nth ps (suc n)).lane ≡ 0 → ⊥) → nth ps n ≡ beside (nth ps (suc n)) 0
 
+-- that behind lane n of this list no lane but a lane 0 stands: so it is no lane 0 of a link of two lanes
+abbrev pub BeginsNoPair : List Place → ℕ → Type 0
+BeginsNoPair ps n = suc n < length ps → (nth ps (suc n)).lane ≡ 0
+
+-- that `next` has for each lane of ps a later position, at most their count, and that no lane between the two begins a
+-- link of two lanes
+pub record AreNextPairs (ps : List Place) (next : List ℕ) : Type 0 where
+  pub even : length next ≡ length ps
+  pub later : (n : ℕ) → n < length ps → n < slice_index_or next n 0
+  pub within : (n : ℕ) → n < length ps → slice_index_or next n 0 ≤ length ps
+  pub none : (n k : ℕ) → n < length ps → n < k → k < slice_index_or next n 0 → BeginsNoPair ps k
+
 -- that own lane n is the first lane of its link, lane 0; nothing is said where there is no own lane n
 abbrev pub BeginsLink : Lanes → ℕ → Type 0
 BeginsLink own n = n < length own.places → (place_at own n).lane ≡ 0

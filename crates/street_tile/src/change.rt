@@ -3,7 +3,7 @@ ghost use Rattle.std.specs.Prelude.{ℕ, ◌<◌, ◌≤◌, length};
 ghost use Rattle.street_base.specs.declared.net.NetSpec.{NetSpec};
 ghost use Rattle.street_lanes.specs.Prelude.{Same, lane_of, HasNobodyInCells};
 ghost use Rattle.street_lanes.specs.Lanes.{IsOf};
-ghost use Rattle.street_tile.specs.Prelude.{IsTileOf, IsRoads, ArePairs, BeginsLink, ChangeLanes, LanePhase};
+ghost use Rattle.street_tile.specs.Prelude.{IsTileOf, IsRoads, ArePairs, AreNextPairs, BeginsLink, ChangeLanes, LanePhase};
 
 use crate::Tile;
 use street_base::Step;
@@ -28,18 +28,20 @@ fn next_link(own: &Lanes, lane: usize) -> usize
     n
 }
 
-/// Lane changes, in the step of this clock, on each link of two lanes among a tile's own lanes.
-fn change_lanes(own: &mut Lanes, net: &Network, clock: Step)
+/// Lane changes, in the step of this clock, on each link of two lanes among a tile's own lanes. `pairs` tells of each lane the next
+/// one behind it that begins such a link, so that links of one lane are passed over.
+fn change_lanes(own: &mut Lanes, net: &Network, pairs: &[usize], clock: Step)
     requires of { IsOf net.now own.old }
     requires roads { IsRoads net.now }
     requires pairs { ArePairs net.now own.old.places }
+    requires next { AreNextPairs own.old.places pairs.now }
     ensures same { Same own.old own.new }
     ensures room { own.old.room ≤ own.new.room }
     ensures stand { ChangeLanes net.now clock own.old own.new }
 {
     let mut n = next_link(own, 0);
     while n < own.len() {
-        let mut after = n + 1;
+        let mut after = pairs[n];
         if net.lanes_of(own.at(n).link) == 2 {
             // The lane is lane 0 of its link, and the next one is the link's other lane.
             own.change(net, n, clock);
@@ -55,6 +57,6 @@ impl Tile {
         requires { IsTileOf net.now self.old }
         ensures { LanePhase net.now self.old self.new }
     {
-        change_lanes(&mut self.own, net, self.clock);
+        change_lanes(&mut self.own, net, &self.next_pairs, self.clock);
     }
 }

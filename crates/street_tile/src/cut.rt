@@ -8,6 +8,7 @@ ghost use Rattle.street_tile.specs.Prelude.{IsTileOf, IsIdle, TileStandsFor, Are
 ghost use Rattle.street_node.specs.Prelude.{AtMostOnce};
 
 use crate::hand_over::{Comers, HandOver};
+use crate::lane_pairs::next_pairs;
 use crate::tile::Tile;
 use std::alloc::{AllocError, Global};
 use street_base::{CarNo, CellNo, LaneNo, LinkIx, NodeIx, Place, RecordRow, Starved, Step};
@@ -224,12 +225,14 @@ impl Tile {
         let (own, detectors) = fresh_lanes(alloc, net, &places)?;
         let tables = tables_of(alloc, links, high - low, &places)?;
         let ((numbers, mouths), (handed, coming, arrived, left), signals) = tables;
+        let next_pairs = next_pairs(alloc, &places)?;
         Ok(Tile {
             low,
             high,
             links,
             own,
             numbers,
+            next_pairs,
             clock: net.spec().start as Step,
             signals,
             mouths,

@@ -6,7 +6,7 @@ ghost use Rattle.street_tile.specs.Prelude.{PlacesAt, PlaceAll, DepartAll, Enter
 use crate::Tile;
 use crate::hand_over::{Comers, HandOver};
 use street_base::Step;
-use street_lanes::{Lanes, ListKind};
+use street_lanes::Lanes;
 use street_net::Network;
 
 /// The vehicle that comes to own lane `n`, if one does, is put in its cell 0.
@@ -42,11 +42,12 @@ fn depart_lanes(own: &mut Lanes, clock: Step)
     ensures same { Same own.old own.new }
     ensures lanes { DepartAll clock own.old own.new }
 {
-    let mut n = own.next_filled(ListKind::Waiting, 0);
+    let mut n = own.next_to_depart(0, clock);
     while n < own.len() {
         own.depart(n, clock);
-        n = own.next_filled(ListKind::Waiting, n + 1);
+        n = own.next_to_depart(n + 1, clock);
     }
+    own.look_ahead(clock);
 }
 
 impl Tile {

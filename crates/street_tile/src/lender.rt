@@ -104,6 +104,18 @@ pub fn share<R: Threads + Sync, G: Gate + Sync>(
     );
 }
 
+/// The part of a step of each tile, made by the caller alone, one tile after another: no thread is started.
+pub fn work_all<G: Gate>(net: &Network, gate: &G, part: u32, shown: &[bool], tiles: &mut [Tile])
+    requires few { length tiles.old ≤ most_workers }
+    requires may { All (MayWork net.now part shown.now) tiles.old }
+    ensures len { length tiles.new ≡ length tiles.old }
+    ensures does { Each (DoesWork net.now part shown.now) tiles.old tiles.new }
+{
+    for number in 0..tiles.len() {
+        work(net, gate, part, number as u32, shown, &mut tiles[number]);
+    }
+}
+
 /// For contracts alone: the network of a team's tiles, and which its locks are, each of which tells what lent tiles were.
 pub trait TeamNetwork {
     ghost net: { NetSpec };

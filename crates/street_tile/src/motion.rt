@@ -78,6 +78,11 @@ fn show_closed(own: &Lanes, net: &Network, mouths: &mut [bool])
         → mouth mouths.new p ≡ not (is_closed (lane_of own.now j).track.closed 0) }
     ensures wide { length mouths.new ≡ length mouths.old }
 {
+    // Mostly no cell is closed. What the mouths of other lanes tell is not read.
+    if own.is_all_open() {
+        mouths.fill(true);
+        return;
+    }
     for n in 0..own.len() {
         let at = own.at(n);
         mouths[slot(at.link, at.lane)] = !own.is_first_closed(n);

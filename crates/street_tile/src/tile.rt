@@ -22,6 +22,9 @@ pub struct Tile {
     pub(crate) own: Lanes,
     /// By `street_net::slot`: the number of each own lane in `own`, 0 for any other lane.
     pub(crate) numbers: Vec<usize>,
+    /// For each own lane, by its number: the next own lane behind it that begins a link of two lanes; the count of own lanes where none
+    /// does.
+    pub(crate) next_pairs: Vec<usize>,
     /// The step that it makes next.
     pub(crate) clock: Step,
     /// The signal plan of each of its nodes, from `low` on, where there is one.

@@ -2,8 +2,9 @@
 streetsim.client is the same for users; the kernel sends its commands by it."""
 import fcntl
 import json
+import os
 import subprocess
-from collections.abc import Iterable, Iterator, Sequence
+from collections.abc import Callable, Iterable, Iterator, Sequence
 from os import PathLike, fspath
 from typing import Any, NamedTuple
 
@@ -12,13 +13,20 @@ from streetsim.base.files import Fault
 from streetsim.base.process import Process, ProgramEnded
 from streetsim.base.program import find_program
 
-Command = dict[str, Any] | str | bytes  # a command, or its line
+Fields = dict[str, Any]  # of an object of JSON
+Command = Fields | str | bytes  # a command, or its line
 Numbers = Sequence[Sequence[int]]
 Entries = tuple[tuple[int, ...], ...]
 
 CHUNK = 60_000  # bytes: fits in an empty pipe, so the two sides never wait for each other
 ENCODER = json.JSONEncoder(separators=(",", ":"))  # made once: json.dumps makes one a call
 DECODER = json.JSONDecoder()
+MOST_AT_ONCE = 4096  # bytes that are read of a reply at once; most have fewer
+COUNT = b'{"cmd":"count"}\n'  # the lines of what is asked most; %d is put in for an int alone
+ADVANCE = b'{"cmd":"advance","steps":%d}\n'
+VEHICLE = b'{"cmd":"vehicle","car":%d}\n'
+LANE = b'{"cmd":"lane","link":%d,"lane":%d}\n'
+READ = b'{"cmd":"read","meter":%d}\n'
 
 
 class Refused(Exception):
@@ -186,33 +194,55 @@ class Census(NamedTuple):
 Reply = Refused | Starved | Loaded | Short | Vehicle | Lane | Rows | Census | int
 
 
-def reply_of(reply: Any) -> Reply:
-    """The typed reply of a JSON object; a refusal or Starved is given as a value. Plain numbers answer enter, advance,
-    signal, close, reopen, takeout and meter. KeyError, TypeError and the like where it is no reply."""
-    if "error" in reply:
-        return REFUSALS[reply["error"]](reply.get("at"), reply.get("part"))
-    if "starved" in reply:
-        return Starved()
-    if "state" in reply:
-        reply["plan"] = tuple(reply.get("plan", ()))
-        return Vehicle(**reply)
-    if "admitted" in reply:
-        return Census(**reply)
-    if "buffer" in reply:
-        closed = tuple((first, last) for first, last in reply["closed"])
-        return Lane(entries(reply["cells"]), entries(reply["buffer"]), entries(reply["waiting"]), closed)
-    if "now" in reply:
-        now, rows = Row(*reply["now"]), reply["rows"]
-        period = now.start - rows[-1][0] if rows else 0
-        return Rows(now, tuple(Row(start, period, *rest) for start, *rest in rows))
-    if "links" in reply:
-        return Loaded(**reply)
-    if "short" in reply:
-        return Short(**reply)
-    [(name, number)] = reply.items()
-    if name not in ("car", "clock", "cycle", "closed", "taken", "meter"):
-        raise KeyError(name)
+def refusal_of(reply: Fields) -> Refused:
+    """A refusal, as a value."""
+    return REFUSALS[reply["error"]](reply.get("at"), reply.get("part"))
+
+
+def vehicle_of(reply: Fields) -> Vehicle | int:
+    """Where a vehicle is; or its number alone, the reply to enter."""
+    if len(reply) == 1:
+        return number_of(reply)
+    if "plan" in reply:
+        reply["plan"] = tuple(reply["plan"])
+    return Vehicle(**reply)
+
+
+def lane_of(reply: Fields) -> Lane:
+    """What is on a lane."""
+    closed = tuple((first, last) for first, last in reply["closed"])
+    return Lane(entries(reply["cells"]), entries(reply["buffer"]), entries(reply["waiting"]), closed)
+
+
+def rows_of(reply: Fields) -> Rows:
+    """The rows of a detector."""
+    now, rows = Row(*reply["now"]), reply["rows"]
+    period = now.start - rows[-1][0] if rows else 0
+    return Rows(now, tuple(Row(start, period, *rest) for start, *rest in rows))
+
+
+def number_of(reply: Fields) -> int:
+    """The number that is all of a reply."""
+    [number] = reply.values()
     return number
+
+
+def clock_of(reply: Fields) -> Short | int:
+    """The clock after an advance, or after a part of it."""
+    return Short(**reply) if "short" in reply else number_of(reply)
+
+
+READERS: dict[str, Callable[[Fields], Reply]] = {
+    **dict.fromkeys(("error", "at", "part"), refusal_of),
+    "starved": lambda reply: Starved(),
+    **dict.fromkeys(("car", "state"), vehicle_of),
+    "admitted": lambda reply: Census(**reply),
+    **dict.fromkeys(("buffer", "cells"), lane_of),
+    "now": rows_of,
+    "links": lambda reply: Loaded(**reply),
+    **dict.fromkeys(("clock", "short"), clock_of),
+    **dict.fromkeys(("cycle", "closed", "taken", "meter"), number_of),
+}  # by the first field of a reply: the program writes the fields in the order of their names
 
 
 def entries(lists: Numbers) -> Entries:
@@ -220,15 +250,48 @@ def entries(lists: Numbers) -> Entries:
     return tuple(map(tuple, lists))
 
 
+def reply_of(reply: Fields) -> Reply:
+    """The typed reply of a JSON object; a refusal or Starved is given as a value. Plain numbers answer enter, advance,
+    signal, close, reopen, takeout and meter. KeyError, TypeError and the like where it is no reply."""
+    return READERS[next(iter(reply))](reply)
+
+
+def plain_number(line: bytes) -> int:
+    """The number of a reply that has one alone."""
+    return int(line.translate(None, NO_DIGITS))
+
+
+def plain_census(line: bytes) -> Census:
+    """The census of a line with all its fields in their order."""
+    return tuple.__new__(Census, map(int, line.translate(None, NO_NUMBERS).split(b",")))
+
+
+def plain_cell(line: bytes) -> Vehicle:
+    """The place of a vehicle of one cell that stands in one."""
+    car, cell, lane, link, *plan, speed = map(int, line.translate(None, NO_NUMBERS)[:-1].split(b","))
+    return tuple.__new__(Vehicle, (car, "cell", link, lane, cell, speed, tuple(plan), None, None, 1, None))
+
+
+NO_NUMBERS = bytes(byte for byte in range(256) if byte not in b"0123456789,")
+NO_DIGITS = NO_NUMBERS + b","
+FORMS: dict[bytes, Callable[[bytes], Reply]] = {
+    **{b'{"%s":}\n' % name: plain_number for name in (b"clock", b"car", b"cycle", b"closed", b"taken", b"meter")},
+    b"{%s}\n" % b"".join(b'"%s":' % name.encode() for name in Census._fields): plain_census,
+    b'{"car":"cell":"lane":"link":"plan":[]"speed":"state":"cell"}\n': plain_cell,
+}  # what is left of the replies that come most without their numbers and commas: such lines are read without JSON
+
+
 def read_reply(line: bytes) -> Reply:
     """The typed reply of a line, as `reply_of` gives it; NoReply where it is none."""
     try:
+        if plain := FORMS.get(line.translate(None, b"0123456789,")):
+            return plain(line)
         text = line.decode()
         value, end = DECODER.raw_decode(text)
         if text[end:] not in ("\n", ""):
             raise ValueError(text)
         return reply_of(value)
-    except (ValueError, TypeError, KeyError, AttributeError):
+    except (ValueError, TypeError, KeyError, AttributeError, StopIteration):
         raise NoReply(f"no reply of streetsim: {line[:80].decode(errors='replace').strip()}") from None
 
 
@@ -250,6 +313,16 @@ def line_of_fields(cmd: str, **fields: object) -> bytes:
             return line_of({"cmd": cmd, **fields})
     numbers = "".join([f',"{name}":{number}' for name, number in fields.items()])
     return f'{{"cmd":"{cmd}"{numbers}}}\n'.encode()
+
+
+def vehicle_line(car: int) -> bytes:
+    """The line that asks where a vehicle is."""
+    return VEHICLE % car if type(car) is int else line_of_fields("vehicle", car=car)
+
+
+def lane_line(link: int, lane: int) -> bytes:
+    """The line that asks for a lane."""
+    return LANE % (link, lane) if type(link) is type(lane) is int else line_of_fields("lane", link=link, lane=lane)
 
 
 def granted(reply: Reply) -> Any:
@@ -288,9 +361,111 @@ def check_kept(path: str | PathLike[str]) -> None:
         raise Fault(f"{fspath(path)}: not the file of a session")
 
 
-class Client(Process):
-    """One run of the program, over pipes. Methods raise what was refused, or Starved; `batch` gives these as values.
-    All raise ProgramEnded where the program ends before it replied.
+class Commands:
+    """What may be asked of a session, whoever carries its lines. Methods raise what was refused, or Starved; `batch`
+    gives these as values."""
+
+    def exchange(self, lines: Iterable[bytes]) -> Iterator[bytes]:
+        """Sends lines, each with its end, and gives the replies as bytes, in order."""
+        raise NotImplementedError
+
+    def exchange_one(self, line: bytes) -> bytes:
+        """Sends a line and gives the reply, each with its end."""
+        raise NotImplementedError
+
+    def batch(self, commands: Iterable[Command]) -> list[Reply]:
+        """Sends commands, dictionaries or ready lines, and gives the typed reply to each, in order; refusals and
+        Starved stand among them as values and do not end the batch. ValueError for a line that is blank or several
+        (those before it may have been done), ProgramEnded where the program ends before it replied, NoReply where what
+        it writes is no reply of streetsim."""
+        return [read_reply(reply) for reply in self.exchange(map(line_of, commands))]
+
+    def ask(self, cmd: str, **fields: Any) -> Any:
+        """The typed reply to a command, by its name (cmd) and its fields; raises what was refused, or Starved."""
+        return self.ask_line(line_of_fields(cmd, **fields))
+
+    def ask_line(self, line: bytes) -> Any:
+        """The typed reply to a line that is ready, with its end; raises what was refused, or Starved."""
+        reply = read_reply(self.exchange_one(line))
+        if isinstance(reply, Exception):
+            raise reply
+        return reply
+
+    def load(
+        self, nodes: Numbers, links: Numbers, turns: Numbers, zone: int = 0, dawdle: int = 0, change: int = 0,
+        seed: int = 0, start: int = 0,
+    ) -> Loaded:  # fmt: skip
+        """Loads a network and begins its clock; rows as in docs/LINES.md: nodes [id, residence in steps, vehicles that
+        each buffer holds], links [id, from, to, lanes, cells, limit in cells a step], turns [link, lane, next,
+        next_lane]; zone: cells of turn zones; dawdle, change: chances, of 1,000; seed: of draws; start: clock."""
+        network = {"nodes": nodes, "links": links, "turns": turns}
+        return self.ask("load", **network, zone=zone, dawdle=dawdle, change=change, seed=seed, start=start)
+
+    def signal(self, node: int, phases: Sequence[Sequence[Any]], offset: int = 0) -> int:
+        """Sets a node's plan: phases of (steps, [(link, lane, next link), ..]) with who may go; offset: by how many
+        steps the cycle is ahead of the clock, 0 to the cycle less 1. Gives the cycle, in steps."""
+        return self.ask("signal", node=node, offset=offset, phases=phases)
+
+    def enter(self, plan: Sequence[int], lane: int = 0, depart: int = 0, size: int = 1) -> int:
+        """Adds a vehicle and gives its number, from 0. plan: its links, in order; lane: of the first of them; depart:
+        the clock from which on it wishes to enter; size: cells that it takes, 1 to 4."""
+        return self.ask("enter", plan=plan, lane=lane, depart=depart, **({} if size == 1 else {"size": size}))
+
+    def advance(self, steps: int = 1) -> int:
+        """Makes `steps` steps, 0 to 10,000, of a second, those that a short reply left too; gives the clock."""
+        line = ADVANCE % steps if type(steps) is int else line_of_fields("advance", steps=steps)
+        return self.advance_on(steps, read_reply(self.exchange_one(line)))
+
+    def advance_on(self, steps: int, reply: Reply) -> int:
+        """The clock after so many steps, of which the first reply is this; makes those that it left."""
+        while isinstance(reply, Short):
+            steps -= reply.short
+            reply = read_reply(self.exchange_one(line_of_fields("advance", steps=steps)))
+        return granted(reply)
+
+    def close_lane(self, link: int, lane: int, first: int, last: int) -> int:
+        """Closes the cells first to last, both included, of a lane; gives how many of its cells are closed now."""
+        return self.ask("close", link=link, lane=lane, first=first, last=last)
+
+    def reopen_lane(self, link: int, lane: int, first: int, last: int) -> int:
+        """Opens the cells first to last, both included, of a lane; gives how many of its cells are still closed."""
+        return self.ask("reopen", link=link, lane=lane, first=first, last=last)
+
+    def takeout(self, car: int) -> int:
+        """Takes a vehicle out wherever it is, for good; gives its number."""
+        return self.ask("takeout", car=car)
+
+    def meter(self, link: int, lane: int, cell: int, period: int) -> int:
+        """Places a detector on a cell; period: steps of each of its rows, 1 to 100,000. Gives its number, from 0."""
+        return self.ask("meter", link=link, lane=lane, cell=cell, period=period)
+
+    def read(self, meter: int) -> Rows:
+        """What a detector, by the number that `meter` gave, has noted."""
+        return self.ask_line(READ % meter if type(meter) is int else line_of_fields("read", meter=meter))
+
+    def vehicle(self, car: int) -> Vehicle:
+        """Where a vehicle is, by the number that `enter` gave."""
+        return self.ask_line(vehicle_line(car))
+
+    def vehicles(self, cars: Iterable[int]) -> list[Vehicle]:
+        """As `vehicle`, of many, in their order."""
+        return [granted(read_reply(reply)) for reply in self.exchange(map(vehicle_line, cars))]
+
+    def lane(self, link: int, lane: int) -> Lane:
+        """What is on one lane, in its buffer and waits to enter it, and which of its cells are closed."""
+        return self.ask_line(lane_line(link, lane))
+
+    def lanes(self, places: Iterable[tuple[int, int]]) -> list[Lane]:
+        """As `lane`, of many, each by its (link, lane), in their order."""
+        return [granted(read_reply(reply)) for reply in self.exchange(lane_line(*place) for place in places)]
+
+    def count(self) -> Census:
+        """How many vehicles are where, at the present clock."""
+        return self.ask_line(COUNT)
+
+
+class Client(Commands, Process):
+    """One run of the program, over pipes. All methods raise ProgramEnded where the program ends before it replied.
 
     The program is the one given, else the one that STREETSIM_PROGRAM names, else the one that is installed with the
     tools. It takes calls without an end, or, with `calls`, that number of them, and later ones are refused as Full.
@@ -309,7 +484,8 @@ class Client(Process):
             check_kept(keep)
         words = words_of(program, calls, keep) + (["--workers", str(workers)] if workers != 1 else [])
         super().__init__(words, 1 << 16)
-        self.chunk = min(CHUNK, fcntl.fcntl(self.input.fileno(), fcntl.F_GETPIPE_SZ) * 9 // 10)
+        self.sink, self.source = self.input.fileno(), self.output.fileno()
+        self.chunk = min(CHUNK, fcntl.fcntl(self.sink, fcntl.F_GETPIPE_SZ) * 9 // 10)
 
     def exchange(self, lines: Iterable[bytes]) -> Iterator[bytes]:
         """Sends lines, each with its end, and gives the replies as bytes, in order; lines are sent only as replies are
@@ -338,92 +514,23 @@ class Client(Process):
         return replies
 
     def exchange_one(self, line: bytes) -> bytes:
-        """Sends a line and gives the reply, each with its end; ProgramEnded where the program ends before."""
+        """Sends a line and gives the reply, each with its end; ProgramEnded where the program ends before. Past the
+        buffers of the pipes, which are empty between two calls."""
         try:
-            self.input.write(line)
-            self.input.flush()
-            reply = self.output.readline()
+            sent = os.write(self.sink, line)
+            while sent < len(line):
+                sent += os.write(self.sink, line[sent:])
+            reply = os.read(self.source, MOST_AT_ONCE)
+            while reply and not reply.endswith(b"\n"):
+                part = os.read(self.source, CHUNK)
+                reply = reply + part if part else b""
         except OSError:
             reply = b""
-        if not reply.endswith(b"\n"):
+        if not reply:
             raise ProgramEnded(*self.end())
         return reply
 
-    def batch(self, commands: Iterable[Command]) -> list[Reply]:
-        """Sends commands, dictionaries or ready lines, and gives the typed reply to each, in order; refusals and
-        Starved stand among them as values and do not end the batch. ValueError for a line that is blank or several
-        (those before it may have been done), ProgramEnded where the program ends before it replied, NoReply where what
-        it writes is no reply of streetsim."""
-        return [read_reply(reply) for reply in self.exchange(map(line_of, commands))]
-
-    def ask(self, cmd: str, **fields: Any) -> Any:
-        """The typed reply to a command, by its name (cmd) and its fields; raises what was refused, or Starved."""
-        return granted(read_reply(self.exchange_one(line_of_fields(cmd, **fields))))
-
-    def load(
-        self, nodes: Numbers, links: Numbers, turns: Numbers, zone: int = 0, dawdle: int = 0, change: int = 0,
-        seed: int = 0, start: int = 0,
-    ) -> Loaded:  # fmt: skip
-        """Loads a network and begins its clock; rows as in docs/LINES.md: nodes [id, residence in steps, vehicles that
-        each buffer holds], links [id, from, to, lanes, cells, limit in cells a step], turns [link, lane, next,
-        next_lane]; zone: cells of turn zones; dawdle, change: chances, of 1,000; seed: of draws; start: clock."""
-        network = {"nodes": nodes, "links": links, "turns": turns}
-        return self.ask("load", **network, zone=zone, dawdle=dawdle, change=change, seed=seed, start=start)
-
-    def signal(self, node: int, phases: Sequence[Sequence[Any]], offset: int = 0) -> int:
-        """Sets a node's plan: phases of (steps, [(link, lane, next link), ..]) with who may go; offset: by how many
-        steps the cycle is ahead of the clock, 0 to the cycle less 1. Gives the cycle, in steps."""
-        return self.ask("signal", node=node, offset=offset, phases=phases)
-
-    def enter(self, plan: Sequence[int], lane: int = 0, depart: int = 0, size: int = 1) -> int:
-        """Adds a vehicle and gives its number, from 0. plan: its links, in order; lane: of the first of them; depart:
-        the clock from which on it wishes to enter; size: cells that it takes, 1 to 4."""
-        return self.ask("enter", plan=plan, lane=lane, depart=depart, **({} if size == 1 else {"size": size}))
-
-    def advance(self, steps: int = 1) -> int:
-        """Makes `steps` steps, 0 to 10,000, of a second, those that a short reply left too; gives the clock."""
-        reply = self.ask("advance", steps=steps)
-        while isinstance(reply, Short):
-            steps -= reply.short
-            reply = self.ask("advance", steps=steps)
-        return reply
-
-    def close_lane(self, link: int, lane: int, first: int, last: int) -> int:
-        """Closes the cells first to last, both included, of a lane; gives how many of its cells are closed now."""
-        return self.ask("close", link=link, lane=lane, first=first, last=last)
-
-    def reopen_lane(self, link: int, lane: int, first: int, last: int) -> int:
-        """Opens the cells first to last, both included, of a lane; gives how many of its cells are still closed."""
-        return self.ask("reopen", link=link, lane=lane, first=first, last=last)
-
-    def takeout(self, car: int) -> int:
-        """Takes a vehicle out wherever it is, for good; gives its number."""
-        return self.ask("takeout", car=car)
-
-    def meter(self, link: int, lane: int, cell: int, period: int) -> int:
-        """Places a detector on a cell; period: steps of each of its rows, 1 to 100,000. Gives its number, from 0."""
-        return self.ask("meter", link=link, lane=lane, cell=cell, period=period)
-
-    def read(self, meter: int) -> Rows:
-        """What a detector, by the number that `meter` gave, has noted."""
-        return self.ask("read", meter=meter)
-
-    def vehicle(self, car: int) -> Vehicle:
-        """Where a vehicle is, by the number that `enter` gave."""
-        return self.ask("vehicle", car=car)
-
-    def vehicles(self, cars: Iterable[int]) -> list[Vehicle]:
-        """As `vehicle`, of many, in their order."""
-        return list(map(granted, self.batch(line_of_fields("vehicle", car=car) for car in cars)))
-
-    def lane(self, link: int, lane: int) -> Lane:
-        """What is on one lane, in its buffer and waits to enter it, and which of its cells are closed."""
-        return self.ask("lane", link=link, lane=lane)
-
-    def lanes(self, places: Iterable[tuple[int, int]]) -> list[Lane]:
-        """As `lane`, of many, each by its (link, lane), in their order."""
-        return list(map(granted, self.batch(line_of_fields("lane", link=link, lane=lane) for link, lane in places)))
-
-    def count(self) -> Census:
-        """How many vehicles are where, at the present clock."""
-        return self.ask("count")
+    def end(self) -> tuple[int, str]:
+        """As `Process.end`; the pipes are not used any more."""
+        self.sink = self.source = -1
+        return super().end()

@@ -135,16 +135,15 @@ def elements(path: FilePath, roots: Collection[str] = ()) -> Iterator[Element]:
     `roots` (without any all will do)."""
     with reading(path), open_bytes(path) as file:
         chunks, parser, nesting = Chunks(file), ElementTree.XMLPullParser(("start", "end")), Nesting()
+        begin, end = nesting.begin, nesting.end
         for event, element in events_of(parser, chunks):
             if event == "start":
                 if nesting.depth == 0:
                     root = element
                     if roots and root.tag not in roots:
                         raise Fault(f"{path}: the root is <{root.tag}>, expected <{'> or <'.join(roots)}>")
-                nesting.begin()
-                continue
-            nesting.end()
-            if nesting.depth == 1:
+                begin()
+            elif end() == 1:
                 yield element
                 root.clear()
                 chunks.kept_bytes = 0
@@ -335,7 +334,9 @@ def whole_path(path: FilePath) -> Iterator[str]:
     try:
         with half_file(real_path) as half:
             yield half
-            os.replace(half, real_path)
+            with uninterrupted():
+                os.replace(half, real_path)
+                WRITTEN_PATHS.append(os.fspath(path))
     except OSError as fault:
         if fault.filename and not is_half(fault.filename):
             raise
@@ -363,6 +364,13 @@ def refuse_foreign(folder: FilePath, is_forced: bool = False, outputs: Iterable[
         raise Fault(f"{folder}: {why}: give --out another folder, {more}")
 
 
+def write_setting(folder: str, setting: Json) -> None:
+    """Writes setting.json to a folder of results. Fault where it cannot be written."""
+    with whole_file(f"{folder}/{SETTING}") as file:
+        json.dump(setting, file, indent=1)
+        file.write("\n")
+
+
 @contextlib.contextmanager
 def whole_folder(path: FilePath, last_file: str, names: Collection[str] = NAMES) -> Iterator[str]:
     """A folder to write to, whose files come to the output folder `path` together, in the place of all that the tools
@@ -379,6 +387,8 @@ def whole_folder(path: FilePath, last_file: str, names: Collection[str] = NAMES)
             yield half
             with uninterrupted():
                 move_files(half, path, last_file, names)
+                if not is_half(os.fspath(path)):
+                    note_kept(os.fspath(path))
         is_new = False
     except OSError as fault:
         named = fault.filename if fault.filename and not is_half(fault.filename) else path
@@ -470,17 +480,20 @@ def tell_dropped(dropped: "sys.UnraisableHookArgs") -> None:
 
 
 KEPT_NOTES: list[str] = []  # what is kept, in words, of a tool that a signal ends, beside what was there before
+WRITTEN_PATHS: list[str] = []  # of files that took their names; those of folders for a while are gone at the end
 
 
 def note_kept(text: str) -> None:
     """Notes what is kept where a signal ends the tool from now on: files that are whole, a session that can go on."""
-    KEPT_NOTES.append(text)
+    if text not in KEPT_NOTES:
+        KEPT_NOTES.append(text)
 
 
 def print_signal_end(name: str) -> None:
     """Says on standard error which signal ended the tool, and what is kept of its work."""
+    kept = dict.fromkeys([*KEPT_NOTES, *filter(os.path.exists, WRITTEN_PATHS)])
     with contextlib.suppress(OSError):
-        print_fault(f"ended by {name}: {'kept: ' + ', '.join(KEPT_NOTES) if KEPT_NOTES else 'nothing was written'}")
+        print_fault(f"ended by {name}: {'kept: ' + ', '.join(kept) if kept else 'nothing was written'}")
 
 
 def run_tool(main: Main) -> NoReturn:

@@ -116,11 +116,13 @@ class Nesting:
         if (self.depth > DEEPEST or self.count > MOST_BELOW) and not lifted():
             raise TooMuch(f"has an element with more than {DEEPEST} in one another, or {MOST_BELOW:,} in all, in it")
 
-    def end(self) -> None:
-        """An element ends."""
-        self.depth, self.tag_count = self.depth - 1, self.tag_count + 1
-        if self.depth <= 1:
+    def end(self) -> int:
+        """An element ends; gives how many are open still."""
+        self.depth = depth = self.depth - 1
+        self.tag_count += 1
+        if depth <= 1:
             self.count = 0
+        return depth
 
 
 def refuse_crowded(text: str, size: int = 0) -> None:

@@ -37,9 +37,10 @@ def print_version(name: str) -> None:
     os._exit(0)
 
 
-def run_command(module: str, package: str = "cli") -> "NoReturn":
+def run_command(module: str, package: str = "cli", words_module: str = "") -> "NoReturn":
     """Imports a tool's module, by its name in a package, runs it, and ends the process with its status. A signal that
-    comes before that ends the command as end_at_once says."""
+    comes before that ends the command as end_at_once says. words_module: that of
+    its words alone, for --help."""
     if sys.argv[1:] == ["--version"]:
         print_version(f"streetsim-{NAMES.get(module, module.rstrip('_'))}")
     from importlib import import_module
@@ -55,6 +56,8 @@ def run_command(module: str, package: str = "cli") -> "NoReturn":
     from streetsim.base.program import tell_at_end
     from streetsim.cli.defaults import tell_completed
 
+    if words_module and import_module(f"streetsim.cli.{words_module}").is_help(sys.argv[1:]):
+        module, package = words_module, "cli"
     main = import_module(f"streetsim.{package}.{module}").main
 
     def run_main(arguments: list[str]) -> int:
@@ -87,4 +90,4 @@ calibrate = partial(run_command, "calibrate")
 junction = partial(run_command, "junction")
 example = partial(run_command, "example")
 check = partial(run_command, "check")
-sumo = partial(run_command, "command", "traci")
+sumo = partial(run_command, "command", "traci", "sumo_words")

@@ -7,13 +7,14 @@ import shlex
 from collections.abc import Sequence
 from typing import NoReturn
 
-from streetsim.base.files import Fault, refuse_foreign, refuse_unwritable, whole_file, whole_folder
+from streetsim.base.files import (
+    Fault, refuse_foreign, refuse_unwritable, whole_file, whole_folder, write_setting,
+)  # fmt: skip
 from streetsim.base.folders import SETTING
 from streetsim.base.words import Parser
 from streetsim.cli.open_ import run_tool
 from streetsim.cli.words import add_files, add_out
 from streetsim.model.tables import write_table
-from streetsim.search.route_results import write_setting
 from streetsim.sheet import network
 from streetsim.sheet.flows import LEAD, count_rows, flows_text
 from streetsim.sheet.layout import SheetLayout

@@ -1,5 +1,6 @@
 """streetsim-open: from a network, a configuration, a run or a folder to one page, by the commands that it prints."""
 import argparse
+import gc
 import os
 import shlex
 import sys
@@ -194,7 +195,6 @@ def imported(args: argparse.Namespace, path: str) -> str:
             if last == len(tries):
                 raise
             print("  (status 2: these trips have no routes; the next command finds them)")
-    note_kept(f"{run} and its map")
     if not read_map(map_beside(run)).cars:
         raise Fault(WITHOUT.format(path))
     return run
@@ -224,4 +224,5 @@ def run_tool(module: str, arguments: Sequence[str]) -> int:
     print(f"$ streetsim-{module.rstrip('_')} {shlex.join(arguments)}", flush=True)
     status: int = import_module(f"streetsim.cli.{module}").main(list(arguments))
     COMPLETED.clear()
+    gc.collect()  # what it leaves, which the next one would need beside its own
     return status

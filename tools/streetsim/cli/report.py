@@ -18,11 +18,9 @@ from streetsim.model.folder import Folder
 from streetsim.model.names import read_own
 from streetsim.model.tables import write_table
 from streetsim.report.light_timings import timings_of
-from streetsim.report.page_corridor import corridor_picture
 from streetsim.report.page_making import PageWishes, report_of
 from streetsim.report.page_markup import Section
 from streetsim.report.page_seal import COUNTS, NAMES, Seal, beside_of, write_beside
-from streetsim.report.page_sealing import seal_for
 from streetsim.report.page_summary import ranked_rows
 from streetsim.report.page_table import CHANGES, change_rows
 from streetsim.report.page_verdict import worst_interval
@@ -115,6 +113,8 @@ def main(arguments: list[str]) -> int:
     seal: Seal | None = None
     large: dict[str, bytes] = {}
     if args.sealed:
+        from streetsim.report.page_sealing import seal_for  # which loads what is sealed
+
         seal, large = seal_for(plans, kept_words, args.output, paths_beside)
     text = report_of(plans, interval, wishes_of(plans, args, seal))
     write_beside(args.output, large)
@@ -235,6 +235,8 @@ def interval_of(all_runs: Sequence[Runs], args: argparse.Namespace) -> tuple[int
 def corridor_html(runs: Runs, args: argparse.Namespace) -> str:
     """The corridor's picture of a plan's first seed, as HTML; in both directions where edges lead back. Fault where it
     cannot be drawn, as of corridor_picture."""
+    from streetsim.report.page_corridor import corridor_picture  # which loads what draws
+
     folder, paths = runs.first_folder, path_and_way_back(runs.first_folder, names_in(args.corridor))
     clocks = ((getattr(args, name), usual) for name, usual in PICTURE_SECONDS.items())
     first, last = (usual if clock is None else clock for clock, usual in clocks)

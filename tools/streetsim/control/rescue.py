@@ -4,6 +4,7 @@ from collections import Counter
 from streetsim.base.arrays import numpy as np
 from streetsim.kernel.loop import NEVER, Controller, Kernel
 from streetsim.kernel.seconds import READY, Block
+from streetsim.model.knots import Rescued
 
 MINUTE = 60  # seconds between looks at who stands
 
@@ -20,6 +21,7 @@ class Rescue(Controller):
         self.standing: dict[tuple[int, int], int] = {}  # by (car, link): the clock since which it stands there
         self.count: Counter[int] = Counter()  # rescues, by vehicle of the file
         self.clocks: list[int] = []  # of rescues, rising
+        self.rescued: list[Rescued] = []  # the same, with their places
 
     def begin(self, kernel: Kernel) -> None:
         """Nobody stands yet."""
@@ -43,12 +45,11 @@ class Rescue(Controller):
             self.standing[key] = known.get(key, clock) if here else spot & READY
         if clock < self.kernel.until:
             for key in [key for key, since in self.standing.items() if clock - since >= self.seconds]:
-                del self.standing[key]
-                self.take_and_enter(clock, key[0])
+                self.take_and_enter(clock, key[0], self.standing.pop(key))
 
-    def take_and_enter(self, clock: int, car: int) -> None:
+    def take_and_enter(self, clock: int, car: int, since: int) -> None:
         """Takes a car, by its number in the program, out and enters its vehicle anew on the next link of its plan;
-        nothing where it is on its last link."""
+        nothing where it is on its last link. since: the clock from which on it stood."""
         kernel = self.kernel
         [vehicle] = kernel.ask_vehicles([car])
         rest = list(vehicle.plan[1:])
@@ -60,4 +61,6 @@ class Rescue(Controller):
             command["size"] = vehicle.size
         kernel.reenter(car, command)
         self.clocks.append(clock)
+        takeout = kernel.vehicles.takeouts[-1]
+        self.rescued.append(Rescued(clock, since, takeout.slot // 2, not takeout.on_lane))
         self.count[int(kernel.vehicles.owner[car])] += 1

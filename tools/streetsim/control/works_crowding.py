@@ -6,6 +6,7 @@ from itertools import pairwise
 from typing import NamedTuple
 
 from streetsim.control.works_closures import Closure
+from streetsim.control.works_returning import doubt_of_turning
 from streetsim.model.doubts import ADDED, OF_WORKS, Doubt
 from streetsim.model.freeflow import FreeFlow
 from streetsim.model.mapping import Map
@@ -36,8 +37,8 @@ def told_of_crowding(run: Run, mapping: Map, closures: Sequence[Closure]) -> Ite
 
 def crowded_works(run: Run, mapping: Map, closures: Sequence[Closure]) -> list[Doubt]:
     """What doubts what works add, one for each link with works: how full the open lanes are in the worst hour where
-    that is NEARLY or more of what they pass in SUMO, which is less behind a light; and, with the text of
-    told_of_crowding, of edges with further links, to which nobody changes."""
+    that is NEARLY or more of what they pass in SUMO, which is less behind a light; a junction near behind them; and,
+    with the text of told_of_crowding, of edges with further links, to which nobody changes."""
     doubts = []
     for link in sorted({one.link for one in closures}):
         link_works, edge = [one for one in closures if one.link == link], mapping.links[link].edge
@@ -50,6 +51,8 @@ def crowded_works(run: Run, mapping: Map, closures: Sequence[Closure]) -> list[D
             vehicles = round(hour.hourly * (hour.end - hour.begin) / 3600)
             times = hour.begin, hour.end, round(share, 2), vehicles
             doubts.append(Doubt(OF_WORKS, "", edge, why, ADDED, "", "", *times))
+        if turning := doubt_of_turning(run, mapping, link_works):
+            doubts.append(turning)
         told = too_many(run, mapping, link_works)
         if told and len(mapping.links_of[edge]) > 1:
             doubts.append(Doubt(OF_WORKS, "", edge, f"{told}; {BESIDE}", ADDED, "", "", hour.begin, hour.end))

@@ -8,7 +8,8 @@ from bisect import bisect_right
 from collections import defaultdict
 from collections.abc import Iterable, Sequence
 from dataclasses import dataclass, field
-from itertools import groupby
+from functools import lru_cache
+from itertools import compress, groupby
 
 from streetsim.base.arrays import Array, numpy as np
 from streetsim.control.yielding_ways import NO_CELL, Lanes, Ways
@@ -19,7 +20,9 @@ from streetsim.model.runs import Command, Line
 # slowly as in SUMO: who gives way sees it green.
 HELD_BACK, HELD_AT_BEGIN = 8, 3
 MOST_HELD, ROUNDED = 0.4, 2.0  # share of a green that is held back from its half on, at most; seconds of rounding
-AS_PLANNED, CLOSED, OPENED = MODES = 0, 1, 2  # what a turn shows beside its plan
+MOST_LINES = 100  # of a plan that are kept
+Greens = tuple[tuple[bool, ...], ...]  # by phase and turn
+AS_PLANNED, CLOSED, OPENED = 0, 1, 2  # what a turn shows beside its plan
 
 
 @dataclass(slots=True, eq=False)
@@ -28,39 +31,49 @@ class ShownPhase:
 
     greens: frozenset[int]
     coming: frozenset[int]  # by which somebody may come
-    meets: frozenset[int]  # green ones, where somebody may come before whom they give way
+    # By place of a turn in the node's plan, whether it is green; the same of green ones, where somebody may come before
+    # whom they give way.
+    green_row: Array
+    meets_row: Array
     slots: frozenset[int]  # the lanes of those
+    # By place of a lane in the node's plan the cell from which on one may pass the line in the next second, NO_CELL
+    # where none meet others.
+    alert_cells: Array
     seen_lanes: dict[int, frozenset[int]] = field(default_factory=dict)  # by turn, as far as it was asked for
 
 
 class NodePlan:
     """A plan of a node, for those of its turns that are looked at."""
 
-    def __init__(self, command: Command, turns: Sequence[int], ways: Ways) -> None:
+    def __init__(self, command: Command, turns: Sequence[int], ways: Ways, lanes: Lanes) -> None:
         """command: the signal command; turns: numbers of the turns that lead there."""
-        self.command, self.turns, self.names = command, turns, [ways.all[turn].name for turn in turns]
+        self.command, self.turns, self.names = command, np.array(turns), [ways.all[turn].name for turn in turns]
+        self.slots = np.array(sorted({ways.all[turn].slot for turn in turns}))
         seconds = [length for length, _ in command["phases"]]
         shown = [{tuple(turn) for turn in green} for _, green in command["phases"]]
-        goes_before = np.array([[foe in ways.all[turn].foes for foe in turns] for turn in turns], np.int64)
+        foes = [ways.all[turn].foes for turn in turns]
+        goes_before = np.array([[foe in own for foe in turns] for own in foes], np.int64)
         greens = np.array([[name in green for name in self.names] for green in shown], bool)
-        comes = with_held_back(greens, np.array(seconds), goes_before)
+        comes = np.array(who_may_come(tuple(map(tuple, greens.tolist())), tuple(seconds), goes_before.tobytes()))
         stops = np.array([ways.all[turn].always_stops for turn in turns], bool)
         meets = greens & ((comes.astype(np.int64) @ goes_before.T > 0) | stops)
-        self.phases = [self.phase_of(ways, *rows) for rows in zip(greens, comes, meets)]
+        self.phases = [self.phase_of(ways, lanes, *rows) for rows in zip(greens, comes, meets)]
         self.by_second = [phase for phase, length in zip(self.phases, seconds) for _ in range(length)]
+        # By second those that are left of its phase.
+        self.seconds_left = [count for length in seconds for count in range(length, 0, -1)]
         # Seconds of the cycle at which the lanes change on which some meet others.
         self.changes = [at for at, one in enumerate(self.by_second) if one.slots != self.by_second[at - 1].slots]
-        self.giving = frozenset[int]().union(*(phase.meets for phase in self.phases))  # turns that meet others in any
-        self.lines: dict[tuple[int, tuple[int, ...]], Line] = {}
+        self.giving = meets.any(axis=0)  # by place of a turn, whether it meets others in any phase
+        self.greens = greens  # by phase and turn
+        self.lines: dict[tuple[int, bytes], Line] = {}
+        self.shown_phases: dict[tuple[int, bytes], tuple[list[object], str]] = {}  # by place and by turn, as `greens`
 
-    def phase_of(self, ways: Ways, *rows: Array) -> ShownPhase:
+    def phase_of(self, ways: Ways, lanes: Lanes, *rows: Array) -> ShownPhase:
         """A phase, by whether each turn is green, somebody may come by it, and it meets others."""
-        greens, comes, meets = (frozenset(self.turns[at] for at in row.nonzero()[0].tolist()) for row in rows)
-        return ShownPhase(greens, comes, meets, frozenset(ways.all[turn].slot for turn in meets))
-
-    def phase_at(self, clock: int, offset: int) -> ShownPhase:
-        """The phase at a clock."""
-        return self.by_second[(clock + offset) % len(self.by_second)]
+        greens, comes, meets = (frozenset(self.turns[row].tolist()) for row in rows)
+        slots = frozenset(ways.all[turn].slot for turn in meets)
+        alert_cells = np.array([lanes.line_cell[slot] if slot in slots else NO_CELL for slot in self.slots.tolist()])
+        return ShownPhase(greens, comes, rows[0], rows[2], slots, alert_cells)
 
     def next_change(self, clock: int, offset: int) -> int | None:
         """The next clock at which the lanes change on which some meet others; None where they never do."""
@@ -71,16 +84,39 @@ class NodePlan:
         at = bisect_right(self.changes, second)
         return clock + (self.changes[at] if at < len(self.changes) else self.changes[0] + cycle) - second
 
-    def line(self, offset: int, modes: tuple[int, ...]) -> Line:
+    def line(self, offset: int, modes: bytes) -> Line:
         """The line that shows the plan from its offset on, with turns closed or opened by their modes."""
         if (line := self.lines.get((offset, modes))) is None:
-            closed, opened = ({name for name, one in zip(self.names, modes) if one == mode} for mode in MODES[1:])
-            phases = [
-                [length, sorted([*turn] for turn in {(link, lane, to) for link, lane, to in green} - closed | opened)]
-                for length, green in self.command["phases"]
-            ]
-            line = self.lines[offset, modes] = own_line({**self.command, "offset": offset, "phases": phases})
+            if len(self.lines) >= MOST_LINES:  # of a long run
+                self.lines.clear()
+                self.shown_phases.clear()
+            mode = np.frombuffer(modes, np.int8)
+            rows = (self.greens & (mode != CLOSED)) | (mode == OPENED)
+            phases, texts = zip(*(self.shown_phase(at, row) for at, row in enumerate(rows)))
+            line = own_line({**self.command, "offset": offset, "phases": []})
+            text = line.text.replace('"phases":[]', f'"phases":[{",".join(texts)}]')
+            line = self.lines[offset, modes] = Line(line.number, text, {**line.command, "phases": [*phases]})
         return line
+
+    def shown_phase(self, at: int, is_green: Array) -> tuple[list[object], str]:
+        """A phase of the plan as a command has it, and the text of it; is_green: by turn."""
+        key = at, is_green.tobytes()
+        if key not in self.shown_phases:
+            length, green = self.command["phases"][at]
+            turns = {tuple(turn) for turn in green}.difference(self.names)
+            shown = turns.union(compress(self.names, is_green.tolist()))
+            phase: list[object] = [length, sorted([*turn] for turn in shown)]
+            self.shown_phases[key] = phase, json.dumps(phase, separators=(",", ":"))
+        return self.shown_phases[key]
+
+
+@lru_cache
+def who_may_come(greens: Greens, seconds: tuple[int, ...], goes_before: bytes) -> Greens:
+    """What with_held_back gives, as many lights of a town show the same; goes_before: as bytes, of 64-bit numbers."""
+    turns = len(greens[0])
+    before = np.frombuffer(goes_before, np.int64).reshape(turns, turns)
+    found = with_held_back(np.array(greens, bool), np.array(seconds), before)
+    return tuple(map(tuple, found.tolist()))
 
 
 def with_held_back(greens: Array, seconds: Array, goes_before: Array) -> Array:
@@ -119,29 +155,38 @@ def held_back(greens: Sequence[bool], seconds: Sequence[int]) -> list[bool]:
 
 
 class PlansInForce:
-    """The plans of nodes with lights, and what they show at the clock."""
+    """The plans of nodes with lights, and what they show at the clock. Arrays by turn have one entry more, for
+    NO_TURN."""
 
     def __init__(self, ways: Ways, lanes: Lanes) -> None:
         """None is in force yet; a node without one shows nothing."""
-        self.ways, self.lanes = ways, lanes
+        self.ways, self.lanes, self.clock = ways, lanes, 0
         self.turns_at = defaultdict[int, list[int]](list)
         for turn, way in enumerate(ways.all):
             self.turns_at[way.node].append(turn)
         self.plans: dict[int, NodePlan] = {}
         self.offsets: dict[int, int] = {}
         self.plan_by_key: dict[str, NodePlan] = {}  # by node and phases
-        nobody = frozenset[int]()
-        self.clock, self.nothing_shown = 0, ShownPhase(nobody, nobody, nobody, nobody)
-        self.phases: dict[int, ShownPhase] = {}  # by node what is shown at the clock, as far as it was asked for
-        self.meeting: dict[int, frozenset[int]] = {}  # by node the lanes on which some meet others at the clock
-        self.mode = [AS_PLANNED] * len(ways.all)
-        self.changed: dict[int, set[int]] = {}  # by lane the turns that are not as planned
+        nobody, none = frozenset[int](), np.zeros(0, bool)
+        nothing_shown = ShownPhase(nobody, nobody, none, none, nobody, none)
+        self.phase_of = dict.fromkeys(self.turns_at, nothing_shown)  # by node what is shown at the clock
+        count = len(ways.all) + 1
+        self.green = np.zeros(count, bool)  # by turn, at the clock
+        # By turn whether it is green and somebody may come before whom it gives way.
+        self.meets = np.zeros(count, bool)
+        self.gives = np.zeros(count, bool)  # by turn whether that is so in any phase of the plan in force
+        self.mode = np.zeros(count, np.int8)  # by turn
+        self.node = [way.node for way in ways.all]  # by turn
+        self.modes = {node: bytearray(len(turns)) for node, turns in self.turns_at.items()}  # by node, of its turns
+        self.place = {turn: place for turns in self.turns_at.values() for place, turn in enumerate(turns)}
+        self.changed = np.zeros(len(lanes.length), np.int32)  # by lane how many turns are not as planned
         # By lane the cell from which on one may pass the line in the next second, where some meet others.
         self.alert_cell = np.full(len(lanes.length), NO_CELL)
-        # Clock, node and number of the plan of the next changes of lanes on which some meet others.
+        # Clock, node and number of the plan of the next phases, and of the next changes of lanes on which some meet
+        # others.
         self.due: list[tuple[int, int, int]] = []
+        self.changes_due: list[tuple[int, int, int]] = []
         self.number: dict[int, int] = {}
-        self.is_constant = [False] * len(ways.all)  # whether the plan of a turn's node has one phase, with it green
 
     def note(self, clock: int, command: Command) -> None:
         """Takes a command that is sent at a clock, where it sets the light of one of the nodes."""
@@ -149,63 +194,61 @@ class PlansInForce:
             return
         key = f"{node}{json.dumps(command['phases'])}"
         if key not in self.plan_by_key:
-            self.plan_by_key[key] = NodePlan(command, self.turns_at[node], self.ways)
-        self.plans[node], self.offsets[node] = self.plan_by_key[key], command.get("offset", 0)
-        [first, *further] = self.plans[node].phases
-        for turn in self.turns_at[node]:
+            self.plan_by_key[key] = NodePlan(command, self.turns_at[node], self.ways, self.lanes)
+        plan = self.plans[node] = self.plan_by_key[key]
+        self.offsets[node] = command.get("offset", 0)
+        for turn in self.turns_at[node] if any(self.modes[node]) else ():
             self.set_mode(turn, AS_PLANNED)
-            self.is_constant[turn] = not further and turn in first.greens
+        self.gives[plan.turns] = plan.giving
         self.number[node] = self.number.get(node, 0) + 1
-        heapq.heappush(self.due, (clock, node, self.number[node]))
+        for due in (self.due, self.changes_due):
+            heapq.heappush(due, (clock, node, self.number[node]))
 
     def advance(self, clock: int) -> None:
         """Brings what is green to a clock."""
-        self.clock = clock
-        self.phases.clear()
+        self.clock, changed = clock, list[tuple[NodePlan, ShownPhase]]()
         while self.due and self.due[0][0] <= clock:
             _, node, number = heapq.heappop(self.due)
             if number == self.number[node]:
-                plan, offset = self.plans[node], self.offsets[node]
-                self.show_meeting(node, plan.phase_at(clock, offset).slots)
-                if (later := plan.next_change(clock, offset)) is not None:
-                    heapq.heappush(self.due, (later, node, number))
+                plan = self.plans[node]
+                second = (clock + self.offsets[node]) % len(plan.by_second)
+                self.phase_of[node] = plan.by_second[second]
+                changed.append((plan, self.phase_of[node]))
+                if len(plan.phases) > 1:
+                    heapq.heappush(self.due, (clock + plan.seconds_left[second], node, number))
+        if changed:
+            self.show_phases(*zip(*changed))
+
+    def show_phases(self, plans: Sequence[NodePlan], phases: Sequence[ShownPhase]) -> None:
+        """Takes what some nodes show now, by their plans and the phases of these."""
+        turns = np.concatenate([plan.turns for plan in plans])
+        self.green[turns] = np.concatenate([phase.green_row for phase in phases])
+        self.meets[turns] = np.concatenate([phase.meets_row for phase in phases])
+        slots = np.concatenate([plan.slots for plan in plans])
+        self.alert_cell[slots] = np.concatenate([phase.alert_cells for phase in phases])
 
     def next_change(self) -> int:
         """The next clock at which the lanes change on which some meet others, as far as it is known."""
-        return self.due[0][0] if self.due else NEVER
-
-    def show_meeting(self, node: int, slots: frozenset[int]) -> None:
-        """Takes the lanes of a node on which some meet others."""
-        before = [*self.meeting.get(node, ())]
-        self.alert_cell[before] = NO_CELL
-        self.meeting[node], now = slots, [*slots]
-        self.alert_cell[now] = self.lanes.line_cell[now]
+        due = self.changes_due
+        while due and due[0][0] <= self.clock:
+            _, node, number = heapq.heappop(due)
+            if number == self.number[node]:
+                later = self.plans[node].next_change(self.clock, self.offsets[node])
+                if later is not None:
+                    heapq.heappush(due, (later, node, number))
+        return due[0][0] if due else NEVER
 
     def phase(self, turn: int) -> ShownPhase:
         """What the plan of a turn's node shows now."""
-        node = self.ways.all[turn].node
-        if (phase := self.phases.get(node)) is None:
-            plan = self.plans.get(node)
-            phase = plan.phase_at(self.clock, self.offsets[node]) if plan else self.nothing_shown
-            self.phases[node] = phase
-        return phase
+        return self.phase_of[self.node[turn]]
 
     def is_green(self, turn: int) -> bool:
         """Whether the plan has a turn green now."""
-        return self.is_constant[turn] or turn in self.phase(turn).greens
+        return turn in self.phase_of[self.node[turn]].greens
 
     def may_come(self, turn: int) -> bool:
         """Whether somebody may come by a turn now."""
-        return self.is_constant[turn] or turn in self.phase(turn).coming
-
-    def meets(self, turn: int) -> bool:
-        """Whether a turn is green now and somebody may come before whom it gives way."""
-        return turn in self.phase(turn).meets
-
-    def gives(self, turn: int) -> bool:
-        """Whether a turn meets others, before whom it gives way, in any phase of the plan in force."""
-        plan = self.plans.get(self.ways.all[turn].node)
-        return plan is not None and turn in plan.giving
+        return turn in self.phase_of[self.node[turn]].coming
 
     def seen_lanes(self, turn: int) -> frozenset[int]:
         """The lanes on which those are who go before a turn and may come, as far as they are seen; of one that has red,
@@ -218,26 +261,18 @@ class PlansInForce:
             phase.seen_lanes[turn] = lanes
         return lanes
 
-    def is_meeting(self, slot: int) -> bool:
-        """Whether some of a lane meet others now."""
-        return slot in self.meeting.get(self.lanes.node[slot], ())
-
-    def is_shown(self, turn: int) -> bool:
-        """Whether a turn is shown green now."""
-        return self.is_green(turn) if self.mode[turn] == AS_PLANNED else self.mode[turn] == OPENED
+    def are_shown(self, turns: Array) -> Array:
+        """Whether turns are shown green now."""
+        modes = self.mode[turns]
+        return np.where(modes == AS_PLANNED, self.green[turns], modes == OPENED)
 
     def set_mode(self, turn: int, mode: int) -> None:
         """Has a turn be shown as planned, or closed or opened."""
-        self.mode[turn] = mode
-        slot = self.ways.all[turn].slot
-        turns = self.changed.pop(slot, set()) - {turn}
-        if turns or mode != AS_PLANNED:
-            self.changed[slot] = turns if mode == AS_PLANNED else turns | {turn}
+        modes, place = self.modes[self.node[turn]], self.place[turn]
+        self.changed[self.ways.all[turn].slot] += (mode != AS_PLANNED) - (modes[place] != AS_PLANNED)
+        self.mode[turn] = modes[place] = mode
 
     def lines(self, turns: Iterable[int]) -> list[Line]:
         """The lines of the nodes of some turns, that show them by their modes."""
-        nodes = sorted({self.ways.all[turn].node for turn in turns} & self.plans.keys())
-        return [
-            self.plans[node].line(self.offsets[node], tuple(self.mode[turn] for turn in self.turns_at[node]))
-            for node in nodes
-        ]
+        nodes = sorted({self.node[turn] for turn in turns} & self.plans.keys())
+        return [self.plans[node].line(self.offsets[node], bytes(self.modes[node])) for node in nodes]

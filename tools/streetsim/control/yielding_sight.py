@@ -2,33 +2,54 @@
 from __future__ import annotations
 
 from collections.abc import Collection, Mapping
+from itertools import pairwise
 
-from streetsim.base.arrays import numpy as np
+from streetsim.base.arrays import Array, numpy as np
+from streetsim.base.limits import VEHICLES
 from streetsim.control.yielding_plans import PlansInForce
-from streetsim.control.yielding_ways import HORIZON, NO_TURN
+from streetsim.control.yielding_ways import HORIZON, NO_TURN, Ways
 from streetsim.kernel.seconds import READY, Block, Vehicles
 
 DAWDLED = 0.17  # cells a step that a vehicle loses in the mean
 STARTING = 0.5  # seconds that one loses that stands on its way
 STOPPING_CELLS = 0.83  # in which one stops, for each square of its cells a step (4.5 m/s²)
+HELD_SECONDS = 2  # seconds for which one could have gone on from a buffer and did not; then it is held there
 NOWHERE = -1  # the link behind the end of a plan
 
 
 class LinksAhead:
-    """The links ahead of vehicles, by the plans with which they were entered."""
+    """The links ahead of vehicles, by the plans with which they were entered, and their turns."""
 
-    def __init__(self, vehicles: Vehicles) -> None:
+    def __init__(self, vehicles: Vehicles, ways: Ways) -> None:
         """vehicles: of the run; those to come too."""
-        self.vehicles, self.plans = vehicles, vehicles.plans
-        self.place: dict[int, int] = {}  # by car that of its link in its plan
+        self.vehicles, self.plans, self.number = vehicles, vehicles.plans, ways.number
+        # By car: the place of its link in its plan; the lane, + 1, on which it was looked at there; its turn there.
+        self.places, self.slots, self.turns = (np.zeros(VEHICLES, np.int32) for _ in range(3))
+        self.place, self.slot, self.turn = map(memoryview, (self.places, self.slots, self.turns))
 
     def links(self, car: int, link: int) -> tuple[int, int]:
         """(the next link of a vehicle that is on a link, the one behind it); NOWHERE where there is none."""
-        plan, place = self.plans[car], self.place.get(car, 0)
+        plan, place = self.plans[car], self.place[car]
         if plan[place] != link:
             self.place[car] = place = plan.index(link, place)
+            self.slot[car] = 0
         left = len(plan) - place
         return plan[place + 1] if left > 1 else NOWHERE, plan[place + 2] if left > 2 else NOWHERE
+
+    def turn_on(self, car: int, slot: int) -> int:
+        """The number of the turn by which a vehicle of a lane goes on."""
+        if self.slot[car] != slot + 1:
+            self.turn[car] = self.number.get((slot, self.links(car, slot >> 1)[0]), NO_TURN)
+            self.slot[car] = slot + 1
+        return self.turn[car]
+
+    def turns_on(self, cars: Array, slots: Array) -> Array:
+        """The numbers of the turns by which vehicles of lanes go on."""
+        is_known = self.slots[cars] == slots + 1
+        found = self.turns[cars]
+        for at in (~is_known).nonzero()[0].tolist():
+            found[at] = self.turn_on(int(cars[at]), int(slots[at]))
+        return found
 
 
 class LanesSeen:
@@ -42,29 +63,32 @@ class LanesSeen:
         second before and was to wait, who lets nobody of its lane pass."""
         self.clock, self.links_ahead, self.held_cars = clock, links_ahead, held_cars
         self.ways, self.lanes, self.may_come = plans.ways, plans.lanes, plans.may_come
+        self.turn = links_ahead.turn_on
         self.seconds: dict[int, float] = {}  # by turn until the first one comes who may go on
         self.comes_on: set[int] = set()  # turns whose first one is at its line, or comes too fast to stop there
         self.since_passed: dict[int, int] = {}  # by turn seconds since the last one passed its line, whole
-        # By lane the rows of the second: the first, that of the first one who passed its line, that behind the last.
+        # By lane its rows of those that are seen: the first, that of the first one who passed its line, that behind the
+        # last.
         self.rows: dict[int, tuple[int, int, int]] = {}
-        if not slots:
-            return
-        self.car, self.cell, self.speed = (column.tolist() for column in (block.car, block.cell, block.speed))
-        wanted = np.array(sorted(slots), np.int32)
-        bounds = zip(wanted.tolist(), *(block.slot.searchsorted(wanted, side).tolist() for side in ("left", "right")))
-        for slot, begin, end in bounds:
-            if begin < end:
-                first_inside = self.see_inside(slot, begin, end)
-                self.rows[slot] = begin, first_inside, end
-                self.see_lane(slot, begin, first_inside, end - first_inside >= self.lanes.room[slot])
-        for slot in self.lanes.sources.keys() & slots:
-            for other in self.lanes.sources[slot]:
-                if other in self.rows:
-                    self.see_before(slot, other, *self.rows[other])
+        if slots:
+            self.see(block, slots)
 
-    def turn(self, car: int, slot: int) -> int:
-        """The number of the turn by which a vehicle of a lane goes on."""
-        return self.ways.number.get((slot, self.links_ahead.links(car, slot >> 1)[0]), NO_TURN)
+    def see(self, block: Block, slots: Collection[int]) -> None:
+        """Takes the vehicles of the lanes."""
+        is_seen = np.zeros(len(self.lanes.length), bool)
+        is_seen[[*slots]] = True
+        rows = is_seen[block.slot].nonzero()[0]
+        slot = block.slot[rows]
+        begins = [0, *((slot[1:] != slot[:-1]).nonzero()[0] + 1).tolist(), len(rows)]
+        self.car, self.cell, self.speed = (column[rows].tolist() for column in (block.car, block.cell, block.speed))
+        for lane, (begin, end) in zip(slot[begins[:-1]].tolist() if len(rows) else (), pairwise(begins)):
+            first_inside = self.see_inside(lane, begin, end)
+            self.rows[lane] = begin, first_inside, end
+            self.see_lane(lane, begin, first_inside, end - first_inside >= self.lanes.room[lane])
+        for lane in self.lanes.sources.keys() & slots:
+            for other in self.lanes.sources[lane]:
+                if other in self.rows:
+                    self.see_before(lane, other, *self.rows[other])
 
     def to_line(self, slot: int, cells_left: int, speed: int) -> float:
         """The seconds for which one drives to its stop line (cells_left 1: at it)."""
@@ -107,12 +131,15 @@ class LanesSeen:
 
     def see_before(self, slot: int, source: int, begin: int, first_inside: int, end: int) -> None:
         """Takes those into the seconds to a stop line of a short lane who come there from a lane before, by rows of the
-        second."""
+        second; behind one that is held in a buffer nobody comes."""
         drive = self.lanes.length[slot] / (self.lanes.limit[slot] - DAWDLED)
         farthest = self.lanes.length[source] - HORIZON * self.lanes.limit[source]
         for row in range(first_inside, end):
+            wait = (self.cell[row] & READY) - self.clock
+            if wait < -HELD_SECONDS:
+                return
             if (turn := self.turn_behind(slot, source, self.car[row])) != NO_TURN:
-                self.note(turn, max(0, (self.cell[row] & READY) - self.clock) + drive)
+                self.note(turn, max(0, wait) + drive)
         for row in range(begin, first_inside):
             cell, speed = self.cell[row], self.speed[row]
             if cell < farthest:

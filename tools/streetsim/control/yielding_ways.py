@@ -6,7 +6,7 @@ from collections.abc import Mapping, Sequence
 from dataclasses import dataclass, field
 
 from streetsim.base.arrays import numpy as np
-from streetsim.base.limits import CELLS
+from streetsim.base.limits import CELLS, CLOCK
 from streetsim.model.mapping import Map
 from streetsim.model.waiting import ALWAYS_STOP, NodeWays, TurnKey
 from streetsim.sumo.greens import headway
@@ -24,7 +24,11 @@ LOOKING, JOINING, AT_SIGN, IN_TURN = 2.55, 3.0, 6.15, 5.85
 # and of fast and slow ones that are joined from a stop sign, which are seen from as far.
 OPEN_MORE, ENTERING_MORE, FAST_MORE, STOP_FAST_MORE, STOP_MORE = 2.1, 0.4, 3.3, 16.5, 9.5
 WIDER = 0.3  # seconds more for each further lane of a street that is crossed
-FACING_MORE, FACING_SIGNS = 4.5, "sm"  # the same of one that is crossed from a stop sign, and stops or gives way too
+FACING_MORE = 4.5  # the same of one that is crossed from a stop sign, and stops or gives way too
+# Seconds of standing without a light for which one needs a second less before one who comes, and before one that is
+# joined from a stop sign; and by sign those from which on one goes before those who give way too.
+PATIENCE, STOP_PATIENCE = 10.0, 8.0
+URGENT = {"m": 40, STOP: 72}
 STOP_HORIZON = 20  # seconds before the stop line, from which on one is seen that is joined from a stop sign
 
 
@@ -35,6 +39,9 @@ class FoeGap:
     is_met: bool = True  # their ways meet
     seconds_more: float = 0.0  # that have to be free
     passing: int = 1  # seconds after it passed its stop line, until it is out of the way
+    patience: float = PATIENCE
+    gives_too: bool = False  # without a light
+
 
 @dataclass(slots=True)
 class MeetingTurn:
@@ -48,6 +55,11 @@ class MeetingTurn:
     foes: dict[int, FoeGap] = field(default_factory=dict)  # turns that go first
     may_stop: bool = False  # it may go in a red after a stop
     rank: int = 0  # 0: all whom it gives way to give way to nobody
+
+    @property
+    def urgent_after(self) -> int:
+        """Seconds of standing from which on it goes before those who give way too."""
+        return URGENT.get(self.sign, CLOCK)
 
     @property
     def always_stops(self) -> bool:
@@ -79,11 +91,14 @@ class Ways:
         self.speed = [turn.speed for turn in turns]
         for node_ways in mapping.ways:
             self.set_foes(mapping, node_ways)
-        self.gives = [way.gives for way in self.all]  # by turn
+        gives = [way.gives for way in self.all]
         for _ in range(MOST_RANKS):
             for way in self.all:
-                behind = (self.all[foe].rank + 1 for foe in way.foes if self.all[foe].gives)
+                behind = (self.all[foe].rank + 1 for foe in way.foes if gives[foe])
                 way.rank = min(MOST_RANKS, max(behind, default=0))
+        # By turn, and of NO_TURN: whether it gives way, and may go in a red after a stop.
+        self.gives = np.array([*gives, False])
+        self.may_stop = np.array([*(way.may_stop for way in self.all), False])
 
     def set_foes(self, mapping: Map, node_ways: NodeWays) -> None:
         """Sets who goes before each turn of a node, and which stop or may go after a stop."""
@@ -111,7 +126,9 @@ class Ways:
         joins = self.joins(mapping, own_way, foe)
         fast = joins and self.speed[foe] > FAST
         passing = 2 if fast or own_way.sign == ALL_WAY else 1
-        return FoeGap(True, self.seconds_more(mapping, own_way, foe_way, joins, fast), passing)
+        patience = STOP_PATIENCE if own_way.sign == STOP and joins else PATIENCE
+        more = self.seconds_more(mapping, own_way, foe_way, joins, fast)
+        return FoeGap(True, more, passing, patience, foe_way.sign in URGENT)
 
     def seconds_more(
         self, mapping: Map, own_way: MeetingTurn, foe_way: MeetingTurn, joins: bool, fast: bool
@@ -124,7 +141,7 @@ class Ways:
             return FAST_MORE if fast else ENTERING_MORE
         links = mapping.links_of[mapping.links[foe_way.name[0]].edge]
         wider = WIDER * (sum(len(mapping.links[link].lanes) for link in links) - 1)
-        if own_way.sign == STOP and foe_way.sign in FACING_SIGNS:
+        if own_way.sign == STOP and foe_way.sign in URGENT:
             return FACING_MORE + wider
         return OPEN_MORE + wider
 
@@ -150,8 +167,9 @@ class Lanes:
         self.length, self.limit = [link.cells for link in links], [link.limit for link in links]
         self.node = [link.end for link in links]
         self.residence, self.room = [nodes[link.end][1] for link in links], [nodes[link.end][2] for link in links]
-        self.may_stop = {way.slot for way in ways.all if way.may_stop}
-        self.limits = np.array(self.limit)
+        self.may_stop = np.zeros(len(links), bool)
+        self.may_stop[[way.slot for way in ways.all if way.may_stop]] = True
+        self.limits, self.lengths = np.array(self.limit), np.array(self.length)
         self.horizon = self.horizons(ways)
         # Seconds in which nobody gets from the begin of a lane near its stop line, one at least.
         self.least_drive = min((self.length[way.slot] // self.limit[way.slot] - 1 for way in ways.all), default=1)

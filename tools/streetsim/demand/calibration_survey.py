@@ -3,14 +3,12 @@ from __future__ import annotations
 
 from collections.abc import Iterable, Sequence
 from dataclasses import dataclass
-from math import sqrt
 
 from streetsim.base.arrays import numpy as np
 from streetsim.model.saturation import DAWDLES, GREEN, table_of
 
 SKIPPED = 3  # vehicles of a green, from behind which on headways count
 LEAST_VEHICLES = 6  # vehicles of a green whose headways count
-SPREAD = (0.4, 0.3)  # of a green's headway from the fourth vehicle on (s), and of its vehicles less those, usual ones
 
 
 @dataclass(frozen=True, slots=True)
@@ -51,8 +49,3 @@ def surveyed_drivers(lanes: Sequence[SurveyedLane]) -> tuple[float, float]:
     """The mean of what lanes tell, as of drivers_of; one lane at least."""
     values = np.array([drivers_of(lane) for lane in lanes])
     return float(values[:, 0].mean()), float(values[:, 1].mean())
-
-
-def flow_error(lane: SurveyedLane) -> float:
-    """The standard error of a surveyed flow, as a share of it, by its greens and what headways usually spread."""
-    return SPREAD[0] / (3600 / lane.flow) / sqrt(max(1, lane.greens) * max(1.0, lane.per_green - SKIPPED - 1))

@@ -5,7 +5,8 @@ from collections.abc import Callable, Sequence
 from dataclasses import asdict, dataclass
 
 from streetsim.base import limits
-from streetsim.base.files import Json, whole_folder
+from streetsim.base.files import Json, whole_folder, write_setting
+from streetsim.base.folders import SETTING
 from streetsim.demand import correcting, demanding
 from streetsim.demand.correcting import Attempt
 from streetsim.demand.demanding import Basis, DemandInputs, Fitted
@@ -15,7 +16,6 @@ from streetsim.demand.pictures import draw_fit
 from streetsim.demand.writing import write_demand, write_judged
 from streetsim.model import trust
 from streetsim.search.route_loading import write_loaded
-from streetsim.search.route_results import NAME, write_setting
 from streetsim.search.route_watching import RunGround
 from streetsim.search.run_prepared import program_digest
 from streetsim.sumo.trips import Trip, Trips, write_routes
@@ -135,7 +135,7 @@ def write_result(paths: DemandOutputs, demand: MadeDemand, setting: Json) -> Non
     write_routes(paths.routes, Trips(list(demand.trips), types), basis.town.graph)
     if paths.run and paths.mapping:
         write_loaded(loaded, basis.town, paths.routes, paths.run, paths.mapping)
-    with whole_folder(paths.folder, NAME) as folder:
+    with whole_folder(paths.folder, SETTING) as folder:
         write_demand(folder, basis, demand.fitted, demand.tried)
         if demand.judged:
             write_judged(folder, demand.judged)

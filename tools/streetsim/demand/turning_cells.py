@@ -78,5 +78,5 @@ def ends_of(begins: Sequence[int], ends: Sequence[int | None]) -> list[int]:
     rising = sorted({*begins})
     steps = [later - sooner for sooner, later in zip(rising, rising[1:])]
     if not steps:
-        raise Ambiguous("when the period ends is not said")
+        raise Ambiguous("all rows begin at one time, and none says when it ends")
     return [begin + min(steps) if end is None else end for begin, end in zip(begins, ends, strict=True)]

@@ -33,6 +33,9 @@ class SentLine(NamedTuple):
     for_a_gap: bool = False  # it shows a plan that stays in force, but for turns that give way
 
 
+NO_LINE = Line(-1, "", {"cmd": "signal"})  # for one for a gap, of which a day in a city has a million
+
+
 class Observer:
     """Looks, and never acts: gets all seconds of a run, some hundred at once."""
 
@@ -79,6 +82,8 @@ class Kernel:
         self.vehicles = Vehicles()
         self.entered = 0  # vehicles of the file
         self.sent_lines: list[SentLine] = []  # behind the load and the first lines of the run
+        # Whether those for gaps are kept whole, for observers that look at them; else NO_LINE stands for each.
+        self.keeps_gaps = False
         self.closed = ClosedCells()
         self.waiting: list[Blocks] = []  # what observers have not got yet
         self.size = 0  # bytes of it
@@ -180,8 +185,11 @@ class Kernel:
     def send_now(self, lines: Sequence[Line], passed_on: bool, for_a_gap: bool = False) -> None:
         """Sends lines, and keeps them as SentLine has them. Fault where one is refused."""
         self.send_lines(lines)
+        if for_a_gap and not self.keeps_gaps:
+            self.sent_lines += [SentLine(self.clock, NO_LINE, passed_on, for_a_gap)] * len(lines)
+        else:
+            self.sent_lines += [SentLine(self.clock, line, passed_on, for_a_gap) for line in lines]
         for line in lines:
-            self.sent_lines.append(SentLine(self.clock, line, passed_on, for_a_gap))
             self.closed.note(line.command)
 
     def send_lines(self, lines: Sequence[Line]) -> list[bytes]:

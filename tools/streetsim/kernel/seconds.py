@@ -71,7 +71,8 @@ class Block:
         is_arrival = rows[:, 2] == ARRIVED
         has_arrivals = np.count_nonzero(is_arrival) > 0
         # cell: below 0 in the buffer.
-        self.car, self.slot, self.cell, self.speed = (rows[~is_arrival] if has_arrivals else rows).T
+        columns = (rows[~is_arrival] if has_arrivals else rows).T
+        self.car, self.slot, self.cell, self.speed = np.ascontiguousarray(columns)
         self.arrived = (rows[is_arrival, :3] if has_arrivals else rows[:0, :3]).T  # who arrived: car, slot, ARRIVED
 
     def lane(self, slot: int) -> slice:

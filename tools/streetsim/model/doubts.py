@@ -41,17 +41,17 @@ class Doubt:
         """Whether it lasts in an interval, or ended less than QUEUE_GOES_ON before it."""
         return self.begin < end and (not self.end or begin < self.end + QUEUE_GOES_ON)
 
-    def place_told(self, names: Names) -> str:
-        """Its place in words, with ids only where there are no names, and from when to when it is."""
+    def place_told(self, names: Names, ids: bool = False) -> str:
+        """Its place in words, and from when to when it is; ids: whether with those of edges that have no name."""
+        edges = [self.edge, *([self.target] if self.target else [])]
+        with_ids = f" ({' to '.join(edges)})" if ids and self.edge and not names.street(self.edge) else ""
         if self.kind == OF_WORKS:
-            street = names.street(self.edge)
-            place = f"works on {street}, {names.coming_from(self.edge)}" if street else f"works on {self.edge}"
+            place = f"works on {names.street_told(self.edge)}{with_ids}"
         elif self.kind == JUNCTION or not self.edge:
             place = names.junction_told(self.junction)
         else:
             way = names.movement(self.edge, self.target) if self.target else names.approach(self.edge)
-            ids = f" ({self.edge}{f' to {self.target}' if self.target else ''})" if not names.street(self.edge) else ""
-            place = f"{way}{ids}, at {names.junction_told(self.junction)}"
+            place = f"{way}{with_ids}, at {names.junction_told(self.junction)}"
         return place + self.when_told()
 
     def when_told(self) -> str:
@@ -59,12 +59,13 @@ class Doubt:
         return f", {time_of_day(self.begin)} to {time_of_day(self.end)}" if self.end else ""
 
     def in_words(self, names: Names) -> str:
-        """Its place, why, and what it touches, as plain text."""
-        return f"{self.place_told(names)}: {self.why} ({self.touches})"
+        """Its place with ids, why, and what it touches, as plain text."""
+        return f"{self.place_told(names, ids=True)}: {self.why} ({self.touches})"
 
-    def weight(self) -> tuple[bool, float]:
-        """By which the worst come first: works, then those of most vehicles that are over what passes."""
-        return self.kind == OF_WORKS, (self.size or 1.0) * max(1, self.vehicles)
+    def weight(self) -> tuple[bool, bool, float]:
+        """By which the worst come first: works, then where more wish to pass than can, then those of most vehicles that
+        are near what passes."""
+        return self.kind == OF_WORKS, self.size > 1, (self.size or 1.0) * max(1, self.vehicles)
 
 
 def doubts_from(rows: Iterable[object]) -> list[Doubt]:
@@ -107,11 +108,12 @@ def places_told(doubts: Sequence[Doubt], mapping: Map) -> str:
 
 
 def joined(doubts: Iterable[Doubt]) -> Iterator[Doubt]:
-    """Doubts of one place, kind and reason in intervals that follow each other as one, of the greatest size."""
+    """Doubts of one place, kind and reason in intervals that follow each other as one, of the greatest size; those
+    where more wish to pass than can apart."""
 
-    def place(doubt: Doubt) -> tuple[str, ...]:
+    def place(doubt: Doubt) -> tuple[str | bool, ...]:
         """What those have in common that are joined."""
-        return doubt.kind, doubt.junction, doubt.edge, doubt.lane, doubt.target, doubt.touches
+        return doubt.kind, doubt.junction, doubt.edge, doubt.lane, doubt.target, doubt.touches, doubt.size > 1
 
     for _, group in groupby(sorted(doubts, key=lambda doubt: (*place(doubt), doubt.begin)), place):
         last: Doubt | None = None

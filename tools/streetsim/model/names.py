@@ -1,8 +1,9 @@
 """The names that people know of streets, junctions and movements; a direction where a street has no name."""
 import contextlib
 import csv
-from collections import Counter
+from collections import Counter, defaultdict
 from collections.abc import Container, Iterable, Mapping, Sequence
+from functools import cached_property
 from math import atan2, pi
 
 from streetsim.base.files import Fault, FilePath, open_text, reading
@@ -57,6 +58,36 @@ class Names:
         """What the approach along an edge is called: 'Hill Street, from the north'; without a name 'from the north'."""
         street = self.street(edge)
         return f"{street}, {self.coming_from(edge)}" if street else self.coming_from(edge)
+
+    def street_told(self, edge: str) -> str:
+        """What the street along an edge is called in a sentence: 'Hill Street, from the north'; without a name 'the
+        street from the north at Junction B', which is the next one; the id of an unknown edge."""
+        if edge not in self.mapping.links_of:
+            return edge
+        if self.street(edge):
+            return self.approach(edge)
+        return f"the street {self.coming_from(edge)} at {self.junction_told(self.junction_ahead(edge))}"
+
+    def junction_ahead(self, edge: str) -> str:
+        """The id of the next junction on an edge's way: the first node that has a light, or another street. KeyError
+        for an unknown edge."""
+        lit, passed = {node for _, node in self.mapping.signals}, {edge}
+        while (end := self.mapping.links[self.mapping.links_of[edge][0]].end) not in lit:
+            if len(after := self.ways[0][edge]) != 1 or after <= passed or self.ways[1][next(iter(after))] != {edge}:
+                break
+            (edge,) = after
+            passed.add(edge)
+        return self.mapping.nodes[end][0]
+
+    @cached_property
+    def ways(self) -> tuple[Mapping[str, set[str]], Mapping[str, set[str]]]:
+        """(by edge those to which it leads, those that lead to it)."""
+        after, before = defaultdict[str, set[str]](set), defaultdict[str, set[str]](set)
+        for turn in self.mapping.turns:
+            source, target = self.mapping.links[turn.link].edge, self.mapping.links[turn.next].edge
+            after[source].add(target)
+            before[target].add(source)
+        return after, before
 
     def movement(self, edge: str, to: str) -> str:
         """What the movement from an edge to the next is called: 'Hill Street into Market Street, from the north to the

@@ -161,7 +161,8 @@ def line_of(path: FilePath, number: int, text: str) -> Line:
         if kind == "enter":
             if {*map(type, command["plan"])} != {int}:
                 raise ValueError("plan is no list of whole numbers")
-            command.update(cmd="enter", plan=[SHARED.get(link, link) for link in command["plan"]])
+            # The copy takes no more than its links, of which a list that has grown has some to spare.
+            command.update(cmd="enter", plan=[SHARED.get(link, link) for link in command["plan"]].copy())
     except (ValueError, KeyError, TypeError, AttributeError, RecursionError) as fault:
         raise Fault(f"{path}: line {number} is no command of a run: {fault}") from None
     return Line(0 if command.get(MARK) else number, text.strip(), command)

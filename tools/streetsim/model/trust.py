@@ -3,6 +3,7 @@
 The marks are chosen, not measured: above them a run is of another town than the one that was asked for.
 """
 import json
+import re
 from collections import Counter
 from collections.abc import Iterable, Iterator, Mapping, Sequence
 from dataclasses import dataclass
@@ -14,6 +15,7 @@ from streetsim.base.program import proof_note
 from streetsim.model.doubts import Doubt, places_told
 from streetsim.model.folder import NAME
 from streetsim.model.freeflow import FreeFlow
+from streetsim.model.knots import Knot, knots_told
 from streetsim.model.mapping import Map
 from streetsim.model.runs import Run
 
@@ -25,12 +27,16 @@ OTHER_LENGTH = 0.1  # of the metres that are driven
 MOST_ACTUATED = 0.1  # of the vehicles, that pass lights which SUMO times by detectors
 MOST_FULL = 0.2  # of the vehicles, that pass lanes which are nearly full by the demand
 MOST_OVERFULL = 0.1  # of the vehicles, that pass lanes whose queue grows all the time, as drawn towns chose
+# Of the vehicles, that pass lanes from which some wait for gaps at lights while their queues do not end, as 16 networks
+# of the kinds of bench/run lit chose (seeds 5001 to 5004, 7001 to 7004, 8001 to 8005, 17923, 25421, 32993).
+MOST_IN_GAPS = 0.05
 MOST_SLOW = 0.15  # of the vehicles, that start slowly at lights
 MOST_RESERVED = 0.05  # of the vehicles, that drive on lanes of their own class
 MOST_CROWDED = 0.1  # of the vehicles, that pass nearly full streets which give way
 MOST_NAMED = 3  # edges, or lights
 RESCUED = "(who stood too long and were put down on the next link)"
 RESERVED_OFF = "8 to 13 %"  # of trips of buses in SUMO that drive so (tools/CLOSENESS.md)
+WAITED = re.compile(r"([\d,]+) vehicles? waited to enter at ([\d,]+) s")  # of a doubt: how many, and the clock
 SLOW_OFF = "4 to 15 %"  # of mean trips in SUMO where many start slowly (tools/CLOSENESS.md)
 
 
@@ -95,23 +101,26 @@ def missing_doubts(arrived: Mapping[str, float], due: float) -> list[str]:
 
 
 def doubts(
-    trips: TripsAtEnd, rescues: int, censuses: Sequence, run: Run, mapping: Map, listed: Sequence[str]
+    trips: TripsAtEnd, rescues: tuple[int, Sequence[Knot]], censuses: Sequence, run: Run, mapping: Map,
+    listed: Sequence[str],
 ) -> list[str]:
     """What speaks against a run by rescues, arrivals, entries, works, full lanes, starts, lengths and lights, a text
-    each. rescues: how many; censuses: of each minute; listed: lights that SUMO times by detectors and that show their
-    listed seconds."""
-    found = [*rescue_doubts(trips, rescues), *arrival_doubts(trips), *entry_doubts(trips, censuses)]
+    each. rescues: how many, and the knots in which they were; censuses: of each minute; listed: lights that SUMO times
+    by detectors and that show their listed seconds."""
+    count, knots = rescues
+    found = [*rescue_doubts(trips, count, knots_told(knots, mapping)), *arrival_doubts(trips)]
+    found += entry_doubts(trips, censuses)
     found += works_doubts(works_in(run, mapping), [(trips.clock, trips.all_arrived())])
     found += [*full_doubts(mapping), *start_doubts(mapping), *reserved_doubts(mapping)]
     found += plan_doubts(mapping.doubted_plans)
     return [*found, *length_doubts(trips.clock, run, mapping), *actuated_doubts(trips.clock, run, mapping, listed)]
 
 
-def rescue_doubts(trips: TripsAtEnd, rescues: int) -> Iterator[str]:
+def rescue_doubts(trips: TripsAtEnd, rescues: int, in_knots: str = "") -> Iterator[str]:
     """A doubt where there were more rescues than a hundredth of the vehicles, and more than one. rescues: how many in
-    all, so that a vehicle that was rescued twice counts twice."""
+    all, so that a vehicle that was rescued twice counts twice; in_knots: as knots_told gives it."""
     if rescues > max(1, MOST_RESCUES * trips.vehicles):
-        yield f"{rescues:,} rescues of {count_told(trips.vehicles, 'vehicle')} {RESCUED}"
+        yield f"{rescues:,} rescues of {count_told(trips.vehicles, 'vehicle')} {RESCUED}{in_knots}"
 
 
 def arrival_doubts(trips: TripsAtEnd) -> Iterator[str]:
@@ -212,9 +221,9 @@ def full_doubts(mapping: Map) -> Iterator[str]:
 
 
 def gap_doubts(vehicles: int, passages: Mapping[str, int]) -> Iterator[str]:
-    """A doubt where lanes from which some wait for gaps at lights were full, and were passed then more than a fifth as
-    often as there are vehicles. vehicles: how many there are; passages: by edge how many passed then."""
-    if (count := sum(passages.values())) > MOST_FULL * vehicles:
+    """A doubt where lanes from which some wait for gaps at lights were full, and were passed then more than 0.05 times
+    as often as there are vehicles. vehicles: how many there are; passages: by edge how many passed then."""
+    if (count := sum(passages.values())) > MOST_IN_GAPS * vehicles:
         most_passed = ", ".join(sorted(passages, key=lambda edge: (-passages[edge], edge))[:MOST_NAMED])
         yield (
             f"queues that wait for gaps at lights did not end, for {count_told(count, 'passage')} of "

@@ -4,7 +4,7 @@ from collections.abc import Iterable
 from dataclasses import dataclass, field
 
 from streetsim.model.mapping import Place
-from streetsim.model.service import SIGNALS, STOP_LOSS
+from streetsim.model.service import SIGNALS, STOP_LOSS, fills
 from streetsim.observe.junction_layout import Approach
 
 Movement = tuple[str, str]  # an edge and the next one
@@ -33,6 +33,14 @@ class Interval:
     wishes: dict[Place, float] = field(default_factory=dict)  # who wished to pass and is there, times those who passed
     entering_more: dict[Movement, int] = field(default_factory=dict)  # who waits to enter at its end, less at its begin
     flows: dict[Place, float] = field(default_factory=dict)  # saturation flow, vehicles an hour
+    full_shares: dict[tuple[Place, float], float] = field(default_factory=dict)  # known ones, as full_share gives them
+
+    def full_share(self, lane_key: Place, room: float) -> float:
+        """The share of a lane's cycles whose queue fills a room, in metres; 0 of none."""
+        if (lane_key, room) not in self.full_shares:
+            holds = [fills(queue, room) for queue in self.queues[lane_key]]
+            self.full_shares[lane_key, room] = sum(holds) / len(holds) if holds else 0.0
+        return self.full_shares[lane_key, room]
 
 
 def weighted_mean_losses(parts: Iterable[Losses]) -> Losses:

@@ -1,6 +1,6 @@
 """Makes and writes the rows of the tables movements.csv, approaches.csv and junctions.csv."""
 import contextlib
-from collections import defaultdict
+from collections import Counter, defaultdict
 from collections.abc import Collection, Iterable, Iterator, Mapping, Sequence
 from dataclasses import dataclass, replace
 
@@ -13,11 +13,14 @@ from streetsim.model.tables import APPROACHES, JUNCTIONS, MOVEMENTS, Entry
 from streetsim.observe.junction_layout import Approach
 from streetsim.observe.junction_measures import Interval, Losses, weighted_mean_losses
 
-# v/c of a movement from which on its delay and queue may be other than in SUMO: where some on its lane wait for gaps at
-# a light (chosen on six lone lights, bench/run doubted-rows 51937 --part 1-7), and where nobody does.
-NEARLY_FULL_WAITING, NEARLY_FULL = 0.75, 0.9
+# v/c of a movement from which on its delay and queue may be other than in SUMO: where all on its lanes turn and wait
+# for gaps at a light, where some do, and where nobody does; in an interval, and in a part of one, in which few pass
+# (chosen on lone lights, bench/run doubted-rows 51937 and 60211).
+NEARLY_FULL, NEARLY_FULL_IN_PART = (0.6, 0.85, 0.9), (0.6, 1.0, 1.0)
 SEEN_FULL = 0.85  # v/c of a lane in a run, from which on the demand's doubt of it holds
-OVERFULL, SPILLS = 1.0, 0.1  # v/c, and share of cycles in which a lane is full: from there on its queue stands beyond
+# v/c, and share of cycles in which a lane is full: from there on its queue stands beyond (chosen on the same lights).
+OVERFULL, SPILLS = 1.0, 0.45
+SPILLING = 0.6  # v/c of a movement from which on such a queue is of its whole approach
 MOVEMENT_SHARE = 0.05  # of a movement's vehicles, from which on a lane counts for its queue
 Queues = Mapping[Place, tuple[float, float, float]]  # by lane what queue_figures has
 
@@ -41,11 +44,13 @@ class JunctionTables:
 
     def __init__(
         self, approaches: Mapping[str, Approach], mapping: Map, doubts: Iterable[Doubt] = (),
-        cut: Iterable[str] = (), giving: Iterable[Place] = (),
+        cut: Iterable[str] = (), giving: Iterable[Place] = (), in_parts: bool = False,
     ) -> None:  # fmt: skip
         """approaches: by edge, as `approaches_of` gives them, of a map; doubts: with places; cut: edges of approaches
-        to which further edges lead that no table has; giving: lanes from which some wait for gaps at lights."""
+        to which further edges lead that no table has; giving: lanes from which some wait for gaps at lights; in_parts:
+        whether the intervals are parts of those of the tables, so that few pass in one."""
         self.mapping, self.giving = mapping, {*giving}
+        self.bounds = NEARLY_FULL_IN_PART if in_parts else NEARLY_FULL
         self.full = {one.lane for one in mapping.full.lanes}  # where lanes become one, the edge
         self.doubts, self.cut = DoubtsByPlace(doubts), {*cut}
         self.by_junction: defaultdict[str, list[Approach]] = defaultdict(list)
@@ -59,6 +64,8 @@ class JunctionTables:
         self.doubts_found: list[Doubt] = []
         self.doubts_held: dict[Doubt, float] = {}
         self.doubts_before: dict[str, list[Doubt]] = {}  # by approach what its rows of the interval before said
+        lanes = (lane_key for approach in approaches.values() for lane_key in approach.lanes)
+        self.names = {lane_key: mapping.lane_name(*lane_key) for lane_key in lanes}
 
     def add(self, interval: Interval) -> None:
         """Adds the rows of an interval to all three tables."""
@@ -94,7 +101,7 @@ class JunctionTables:
             self.filled.add(approach.edge)
         known = [*self.seen_doubts(interval, approach, rows), *self.own_doubts(interval, approach, rows, fills_it)]
         own = DoubtsByPlace(known)
-        doubts = [self.movement_doubt(interval, approach, row, own) for row in rows]
+        doubts = [self.movement_doubt(interval, approach, row, own) if known else "" for row in rows]
         self.movements += [(*row.cells, doubt) for row, doubt in zip(rows, doubts, strict=True)]
         place = (interval.begin, interval.end), approach.junction, approach.edge
         whole = why_of(own.of_approach(*place))
@@ -107,23 +114,23 @@ class JunctionTables:
 
     def is_filled(self, approach: Approach, row: MovementRow) -> bool:
         """Whether the demand nearly fills a lane of a movement, or its edge, where lanes become one."""
-        return not self.full.isdisjoint([approach.edge, *(self.mapping.lane_name(*lane) for lane in row.lanes)])
+        return not self.full.isdisjoint([approach.edge, *(self.names[lane] for lane in row.lanes)])
 
     def seen_doubts(self, interval: Interval, approach: Approach, rows: Sequence[MovementRow]) -> list[Doubt]:
         """The given doubts of an approach in an interval; of lanes that are full by the demand those whose v/c in the
         run, the greatest of their movements, is SEEN_FULL or more, with that v/c; and, where any is, what its rows of
         the interval before said, whose queues still end."""
+        doubts = list(self.doubts.around((interval.begin, interval.end), approach.junction, approach.edge))
         ratios, spilling = dict[str, float](), set[str]()
-        for row in rows:
-            for name in (self.mapping.lane_name(*lane) for lane in row.lanes):
+        for row in rows if doubts else ():
+            for name in (self.names[lane] for lane in row.lanes):
                 ratios[name] = max(row.ratio, ratios.get(name, 0.0))
                 spilling |= {name} if row.spills else set()
-        known = list(self.doubts.around((interval.begin, interval.end), approach.junction, approach.edge))
         full = max((row.ratio for row in rows), default=0.0) >= SEEN_FULL
         before = self.doubts_before.pop(approach.edge, []) if full else []
         return [
-            *(doubt for doubt in known if doubt.kind != LANE),
-            *self.lanes_seen_full((doubt for doubt in known if doubt.kind == LANE), ratios, spilling),
+            *(doubt for doubt in doubts if doubt.kind != LANE),
+            *self.lanes_seen_full((doubt for doubt in doubts if doubt.kind == LANE), ratios, spilling),
             *(replace(doubt, why=f"{doubt.why} in the interval before", end=interval.end) for doubt in before),
         ]
 
@@ -135,24 +142,31 @@ class JunctionTables:
         for lane_doubt in known:
             if (ratio := ratios.get(lane_doubt.lane, 0.0)) >= SEEN_FULL:
                 self.doubts_held[lane_doubt] = max(ratio, self.doubts_held.get(lane_doubt, 0.0))
-                spills = lane_doubt.lane in spilling and ratio >= NEARLY_FULL
+                spills = lane_doubt.lane in spilling
                 yield replace(as_seen(lane_doubt, ratio), spills=spills)
 
+    def bound_of(self, row: MovementRow, users: Mapping[Place, int]) -> float:
+        """The v/c from which on a movement is doubted; users: how many movements count for the queue of a lane."""
+        turning, shared, without_gaps = self.bounds
+        if self.giving.isdisjoint(row.lanes):
+            return without_gaps
+        is_alone = self.giving.issuperset(row.lanes) and all(users[lane] == 1 for lane in row.lanes)
+        return turning if is_alone else shared
+
     def own_doubts(
-        self, interval: Interval, approach: Approach, rows: Iterable[MovementRow], fills_it: bool
+        self, interval: Interval, approach: Approach, rows: Sequence[MovementRow], fills_it: bool
     ) -> list[Doubt]:
-        """What the rows of an approach say against themselves, which is noted: movements whose v/c is NEARLY_FULL or
-        more, NEARLY_FULL_WAITING where some on their lanes wait for gaps, and a queue that fills the approach
-        (fills_it) and goes on in edges that no table has."""
-        at = approach.junction, approach.edge
+        """What the rows of an approach say against themselves, which is noted: movements whose v/c is their bound or
+        more, and a queue that fills the approach (fills_it) and goes on in edges that no table has."""
+        at, users = (approach.junction, approach.edge), Counter(lane for row in rows for lane in row.lanes)
         usual = Doubt(MOVEMENT, *at, "", ALL, begin=interval.begin, end=interval.end)
         doubts = [
             replace(
                 usual, target=row.target, why=f"v/c {row.ratio:.2f}", size=round(row.ratio, 2),
-                vehicles=row.lost.vehicles, spills=row.spills and row.ratio >= NEARLY_FULL,
+                vehicles=row.lost.vehicles, spills=row.spills and row.ratio >= SPILLING,
             )
             for row in rows
-            if row.ratio >= (NEARLY_FULL if self.giving.isdisjoint(row.lanes) else NEARLY_FULL_WAITING)
+            if row.ratio >= self.bound_of(row, users)
         ]
         if fills_it and approach.edge in self.cut:
             why = "its queue goes on in the edges before, which no table has"
@@ -163,7 +177,7 @@ class JunctionTables:
 
     def movement_doubt(self, interval: Interval, approach: Approach, row: MovementRow, own: DoubtsByPlace) -> str:
         """What speaks against a movement's row, of the doubts of its approach (own)."""
-        lanes = [self.mapping.lane_name(*lane_key) for lane_key in row.lanes]
+        lanes = [self.names[lane_key] for lane_key in row.lanes]
         place = (interval.begin, interval.end), approach.junction, approach.edge, row.target, lanes
         return why_of(own.of_movement(*place))
 
@@ -236,18 +250,11 @@ def spill_columns(interval: Interval, approach: Approach, lanes: Sequence[Place]
     beside it that goes on further back blocks its begin; the second is empty where none does."""
     full, blocked = 0.0, list[float]()
     for lane_key in lanes:
-        queues, room = interval.queues[lane_key], approach.rooms.get(lane_key, approach.whole_metres)
-        full = max(full, share_of(fills(queue, room) for queue in queues))
-        for beside in approach.lanes:
-            if approach.rooms.get(beside, 0.0) > room:
-                blocked.append(share_of(fills(queue, room) for queue in interval.queues[beside]))
+        room = approach.rooms.get(lane_key, approach.whole_metres)
+        full = max(full, interval.full_share(lane_key, room))
+        further = (beside for beside in approach.lanes if approach.rooms.get(beside, 0.0) > room)
+        blocked += [interval.full_share(beside, room) for beside in further]
     return f"{100 * full:.0f}", f"{100 * max(blocked):.0f}" if blocked else ""
-
-
-def share_of(holds: Iterable[bool]) -> float:
-    """The share of some that hold, 0 of none."""
-    found = list(holds)
-    return sum(found) / len(found) if found else 0.0
 
 
 def loss_columns(lost: Losses, interval: Interval) -> tuple:
@@ -259,8 +266,8 @@ def loss_columns(lost: Losses, interval: Interval) -> tuple:
 
 def queue_figures(queues: Sequence[float]) -> tuple[float, float, float]:
     """The (95 % value, greatest, 50 % value) of a lane's queues, in metres; 0 of none."""
-    greatest = max(queues, default=0.0)
-    return (percentile(queues, 0.95), greatest, percentile(queues, 0.5)) if greatest else (0.0, 0.0, 0.0)
+    ranked = sorted(queues)
+    return (percentile(ranked, 0.95), ranked[-1], percentile(ranked, 0.5)) if any(queues) else (0.0, 0.0, 0.0)
 
 
 def queue_columns(lanes: Iterable[tuple[float, float, float]], metres: float) -> tuple:

@@ -123,7 +123,8 @@ class Junctions(Passages):
         kernel = self.kernel
         crossed = Crossed(self, kernel.plans, interval, dwells_of)
         calculator = UtilisationCalculator(self, self.shown_plans, crossed, kernel.run.load.command["dawdle"])
-        tables = JunctionTables(self.approaches, kernel.map, doubts, cut_short, calculator.giving)
+        in_parts = interval < self.interval
+        tables = JunctionTables(self.approaches, kernel.map, doubts, cut_short, calculator.giving, in_parts)
         unpacked = map(pickle.loads, map(zlib.decompress, packed_shown))
         return tables, itertools.starmap(calculator.interval_measures, enumerate(unpacked))
 

@@ -5,7 +5,7 @@ from __future__ import annotations
 import contextlib
 import json
 import os
-from collections import Counter, defaultdict
+from collections import defaultdict
 from collections.abc import Iterable, Iterator, Sequence
 from dataclasses import asdict, dataclass, field, replace
 from functools import partial
@@ -29,6 +29,7 @@ from streetsim.kernel.serving import serving_program
 from streetsim.model import tables, trust
 from streetsim.model.doubts import Doubt, doubt_rows
 from streetsim.model.folder import NAME, POLLS
+from streetsim.model.knots import knots_of, rescues_in_knots
 from streetsim.model.mapping import Map
 from streetsim.model.names import Names, open_named, write_named
 from streetsim.model.rows import NAME as ROWS
@@ -200,7 +201,7 @@ def figures_of(
     crowded = crowded_works(run, mapping, steering.closures)
     full, nearly_full = steering.yielding.full_passages()
     yielding.crowded = {**yielding.crowded, **nearly_full}
-    places = [*doubts_of_places(run_tables, yielding, kernel, listed), *crowded]
+    places = [*doubts_of_places(run_tables, yielding, listed), *crowded]
     beyond: list[str] = []
     if run_tables.junctions is not None:
         more, beyond, of_rows = run_tables.junctions.write(folder, stops, places)
@@ -208,9 +209,10 @@ def figures_of(
     trips = list(run_tables.trips.rows(steering.rescue.count, stops))
     run_tables.write(folder, trips, clock)
     driven, rescues = trust.trips_at(clock, run.start(), trips), steering.rescue.count.total()
+    knots = knots_of(steering.rescue.rescued, mapping)
     censuses = list(run_tables.summary.censuses())
     doubts = [
-        *trust.doubts(driven, rescues, censuses, run, mapping, listed),
+        *trust.doubts(driven, (rescues, knots), censuses, run, mapping, listed),
         *trust.crowding_doubts(driven.vehicles, yielding.crowded),
         *trust.gap_doubts(driven.vehicles, full),
         *beyond,
@@ -219,7 +221,8 @@ def figures_of(
     ]
     given_run = with_lines(given_run, list(lit_lines(kernel.sent_lines, mapping)))
     write_setting(options, given_run, run_tables, yielding, (doubts, places), folder, clock)
-    parts = driven.in_words(), f"{rescues:,} rescues", yielding.summary(), steering.ending.end_reason
+    rescued = f"{rescues:,} rescues{rescues_in_knots(knots)}"
+    parts = driven.in_words(), rescued, yielding.summary(), steering.ending.end_reason
     return Figures(
         vehicles=driven.vehicles,
         arrived=len(driven.durations),
@@ -234,16 +237,13 @@ def figures_of(
     )
 
 
-def doubts_of_places(
-    run_tables: RunTables, yielding: Yielding, kernel: Kernel, listed: Sequence[str]
-) -> Iterator[Doubt]:
+def doubts_of_places(run_tables: RunTables, yielding: Yielding, listed: Sequence[str]) -> Iterator[Doubt]:
     """The doubts of a run with their places, but for those of its junction tables and of who comes to works. listed:
     lights that SUMO times by detectors and that show their listed seconds."""
     mapping = run_tables.mapping
     yield from doubts_of_import(mapping)
     yield from doubts_of_streets(mapping, yielding.crowded, listed)
-    edges = (mapping.links[one.slot // 2].edge for one in kernel.vehicles.takeouts)
-    yield from doubts_of_rescues(mapping, Counter(edges))
+    yield from doubts_of_rescues(run_tables.steering.rescue.rescued, mapping)
     yield from doubts_of_works_seen(run_tables.works.watched, mapping)
 
 

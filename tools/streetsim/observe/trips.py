@@ -1,6 +1,7 @@
 """trips.csv and stops.csv: when each vehicle arrived, where the others are at the end, and what became of stops."""
 from collections import Counter
 from collections.abc import Iterable, Iterator, Mapping
+from sys import intern
 
 from streetsim.base.arrays import numpy as np
 from streetsim.control.bus_fleet import StopOutcome, dwells
@@ -55,12 +56,14 @@ def trip_rows(trips: Iterable[tuple[str, Line, End, tuple[float, int, int]]]) ->
     """The rows of trips.csv, (name, wished departure, arrival, seconds, seconds alone, seconds lost, how many links its
     plan has, rescues, state), one for each vehicle, as in SUMO's tripinfo. A trip lasts from the wished departure to
     arrival; seconds lost are those beyond seconds alone and at its stops. Arrival, seconds and seconds lost are empty
-    where it has not arrived. trips: name, enter line, end, and (seconds alone, seconds at stops, rescues)."""
+    where it has not arrived. Equal texts are one object, as a day has many. trips: name, enter line, end, and (seconds
+    alone, seconds at stops, rescues)."""
     for name, line, (arrival, state), (free, stood, rescues) in trips:
         depart = line.command["depart"]
-        trip: Entry = ("", "", f"{free:.1f}", "")
+        alone = intern(f"{free:.1f}")
+        trip: Entry = ("", "", alone, "")
         if arrival is not None:
-            trip = arrival, arrival - depart, f"{free:.1f}", f"{arrival - depart - free - stood:.1f}"
+            trip = arrival, arrival - depart, alone, intern(f"{arrival - depart - free - stood:.1f}")
         yield (name, depart, *trip, len(line.command["plan"]), rescues, state)
 
 

@@ -15,6 +15,11 @@ LANE, LINE = 15.0, 17.0  # pixels of the width of a lane, and of a line of text
 MOST_NAME = 22  # letters of a street's name
 SIDEWAYS = 0.7  # of an arm's length, from which on to a side its texts stand beside its end
 WIDEST, LEAST_BAND = 26.0, 1.5  # pixels of the greatest flow and of the least
+KEY = (
+    "Pictures: lanes with the movements that they lead to (L left, T straight on, R right, U back); bands as wide as "
+    "flows that pass, of the colour of their letter; blue, and queue: the 95 % queue of any lane, as a share of the "
+    "room."
+)
 Point = tuple[float, float]
 
 
@@ -45,7 +50,8 @@ def junction_picture(runs: Runs, name: str, interval: tuple[int, int]) -> str:
     parts = [*bands, *(part for arm in arms for part in lanes_drawn(arm, side))]
     parts += [part for arm in arms for part in texts_of(runs, arm)]
     title = escape(f"{runs.names.junction_told(name)}: arms, flows, delays and queues")
-    shape = f'viewBox="0 0 {SIDE} {SIDE}" role="img" aria-label="{title}"'
+    top, high = seen_heights(arms)
+    shape = f'viewBox="0 {top:.0f} {SIDE} {high:.0f}" role="img" aria-label="{title}"'
     return f'<svg class="arms" {shape}><title>{title}</title>{"".join(parts)}</svg>'
 
 
@@ -138,6 +144,32 @@ def lanes_drawn(arm: Arm, side: int) -> Iterator[str]:
         yield quad([arm.point(*corner) for corner in ends], "#3182bd")
 
 
+def texts_top(arm: Arm, count: int) -> float:
+    """The pixels from the top of the picture to the first line of the texts at an arm; count: of its lines."""
+    high = LINE * (count - 1)
+    _, y = arm.point(OUTER + (10 if anchor_of(arm) != "middle" else 20 + high / 2))
+    return min(SIDE - high - 6, max(16.0, y - high / 2 + 5))
+
+
+def anchor_of(arm: Arm) -> str:
+    """On which side of their place the texts at an arm stand, as SVG calls it."""
+    across = cos(arm.turn)
+    return "start" if across > SIDEWAYS else "end" if across < -SIDEWAYS else "middle"
+
+
+def count_of_lines(arm: Arm) -> int:
+    """How many lines of text stand at an arm: street, movements, and queue and delay of its row."""
+    return 1 + len(arm.movements) + (2 if arm.row else 0)
+
+
+def seen_heights(arms: Sequence[Arm]) -> tuple[float, float]:
+    """(the pixels from the top above which nothing is drawn, the pixels from there to the last that is drawn)."""
+    tops = [(texts_top(arm, count), LINE * (count - 1)) for arm, count in ((arm, count_of_lines(arm)) for arm in arms)]
+    first = max(0.0, min(MIDDLE - OUTER - LINE, *(top - LINE for top, _ in tops)))
+    last = min(SIDE, max(MIDDLE + OUTER + LINE, *(top + high + 6 for top, high in tops)))
+    return first, last - first
+
+
 def texts_of(runs: Runs, arm: Arm) -> Iterator[str]:
     """The texts at an arm: the street, its movements with flow, delay and letter, the queue, and whether it is
     doubted."""
@@ -150,10 +182,8 @@ def texts_of(runs: Runs, arm: Arm) -> Iterator[str]:
         queue, room = (arm.row.means.get(name, 0.0) for name in ("queue_95_m", "storage_m"))
         lines.append((f"queue {queue:.0f} of {room:.0f} m", ""))
         lines.append((f"{arm.row.delay:.0f} s {arm.row.letter()}{' doubted' if arm.row.doubt else ''}", "bold"))
-    across, high = cos(arm.turn), LINE * (len(lines) - 1)
-    anchor = "start" if across > SIDEWAYS else "end" if across < -SIDEWAYS else "middle"
-    x, y = arm.point(OUTER + (10 if anchor != "middle" else 20 + high / 2))
-    top = min(SIDE - high - 6, max(16.0, y - high / 2 + 5))
+    anchor, high, top = anchor_of(arm), LINE * (len(lines) - 1), texts_top(arm, len(lines))
+    x, _ = arm.point(OUTER + (10 if anchor != "middle" else 20 + high / 2))
     for at, (text, style) in enumerate(lines):
         kind = f' class="{style}"' if style else ""
         yield f'<text x="{x:.1f}" y="{top + LINE * at:.1f}" text-anchor="{anchor}"{kind}>{escape(text)}</text>'

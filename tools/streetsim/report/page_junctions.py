@@ -4,7 +4,7 @@ from html import escape
 
 from streetsim.base.words import time_of_day
 from streetsim.model.names import Names
-from streetsim.report.page_arms import junction_picture
+from streetsim.report import page_arms
 from streetsim.report.page_choice import NOTICED_SECONDS, RowChange
 from streetsim.report.page_drawings import QueueBar, anchor, letter_mark, queue_picture
 from streetsim.report.page_markup import change_told, table
@@ -12,11 +12,9 @@ from streetsim.report.page_words import how_sure, interval_name
 from streetsim.report.run_tables import ResultRow, Runs
 
 KEY = (
-    "Pictures: lanes with the movements that they lead to; bands as wide as flows, of the colour of their letter; "
-    "blue, and queue: the 95 % queue as a share of the room. L, T, R, U: left, straight on, right, back. Queues: what "
-    "half of the cycles and what 95 % of them do not exceed, and the greatest, of the room. Bars, for the lanes of "
-    "each movement: how far back these go, a pocket as far as it goes, and in it the same queues, dark, light and a "
-    "line."
+    f"{page_arms.KEY} Queues: what half of the cycles and what 95 % of them do not exceed, and the greatest, of the "
+    "room. Bars, for the lanes of each movement: how far back these go, a pocket as far as it goes, and in it the same "
+    "queues, dark, light and a line."
 )
 MOST_MOVEMENTS = 25  # of changes on the page
 
@@ -107,12 +105,14 @@ def detail(runs: Runs, name: str, interval: tuple[int, int]) -> str:
     head += ["stops", "queues, m"]
     rows = [movement_row(row, called) for row in sorted(movements, key=lambda row: row.key)]
     values = junction.means
+    is_alone = len(runs.rows["junctions", *interval]) == 1  # its picture is on the first page
+    picture = "" if is_alone else page_arms.junction_picture(runs, name, interval)
     return (
         f'<section class="whole"><h3 id="{anchor(name)}">{escape(title_of(name, called))}: {junction.delay:.1f} s '
         f'{letter_mark(junction.letter())}, {values["vehicles_per_hour"]:,.0f} vehicles an hour, '
         f'{escape(junction.control)}</h3>{by_time(runs, name)}'
         f'{doubted_places(runs, name)}'
-        f'{table(head, rows, names=3)}<div class="picture">{junction_picture(runs, name, interval)}</div>'
+        f'{table(head, rows, names=3)}<div class="picture">{picture}</div>'
         f'<div class="wide">{queue_picture(list(lane_bars(movements, called)))}</div></section>'
     )
 

@@ -31,10 +31,9 @@ class Room:
         """Takes it where all of it is free and in the picture; gives whether that is so."""
         if not all(half <= x <= self.wide - half and half <= y <= self.high - half for x, y in line):
             return False
-        own = set(squares(line, half))
-        if self.taken_squares & own:
+        if not self.taken_squares.isdisjoint(squares(line, half)):  # which ends at the first that is taken
             return False
-        self.taken_squares |= own
+        self.take_around(line, half)
         return True
 
 

@@ -30,9 +30,10 @@ def report_of(plans: Sequence[Runs], interval: Interval, wishes: PageWishes) -> 
     tables (KeyError for another one)."""
     rows = page_summary.ranked_rows(plans, interval)
     detailed = 0 if wishes.is_short else wishes.detailed
+    alone = page_summary.alone_drawn(plans[-1], interval)
     first_sections = [
         Section("verdict", "Verdict", page_summary.verdict(plans, interval)),
-        Section("map", "Where", page_summary.service_and_works_map(plans[-1], interval, rows, detailed)),
+        Section("map", "Where", alone or page_summary.service_and_works_map(plans[-1], interval, rows, detailed)),
         Section(
             "costs", "What it costs whom" if len(plans) == 2 else "Who waits longest",
             page_summary.costs(plans, interval),
@@ -55,6 +56,9 @@ def appendix_of(
     drawn = page_summary.are_drawn(plans)
     note = page_junctions.said_of_changes(page_summary.common_seeds(plans), drawn) if len(plans) == 2 else ""
     table = note + page_junctions.junction_table(rows, last_plan.names, len(detailed))
+    if page_summary.alone_drawn(last_plan, interval):
+        map_ = page_summary.service_and_works_map(last_plan, interval, rows, len(detailed))
+        yield Section("streets", "Map", map_)
     yield Section("junctions", f"Junctions, {interval_text}", table)
     if len(plans) == 2:
         rows_ = page_summary.ranked_rows(plans, interval, "movements")

@@ -1,28 +1,39 @@
 """The answer of a page of one plan, a councillor's words first: whether it flows, for all, in the worst time and with
 the worst movement."""
+from collections import defaultdict
+from collections.abc import Sequence
+
 from streetsim.base.words import time_of_day
-from streetsim.model.doubts import SPREAD, worst_first
+from streetsim.model.doubts import SPREAD, Doubt, place_of, worst_first
 from streetsim.model.service import level
 from streetsim.report import page_works
-from streetsim.report.page_choice import BAD
+from streetsim.report.page_choice import BAD, RowChange
 from streetsim.report.page_markup import mean_told
+from streetsim.report.page_reasons import doubts_of
 from streetsim.report.page_verdict import (
-    Interval, doubted_share, doubts_of, lane_is_full, ranked_rows, slowest, worst_interval,
+    Interval, LEAST_HOURLY, doubted_share, lane_is_full, ranked_rows, slowest, worst_interval,
 )  # fmt: skip
-from streetsim.report.page_words import count_in_words, counted_noun, interval_name, why
-from streetsim.report.plan_differences import mean_delays
+from streetsim.report.page_words import count_in_words, counted_noun, in_worst, interval_name, why
+from streetsim.report.plan_differences import mean_delays, values_by_seed
 from streetsim.report.run_tables import Runs
 
 FLOWS = "it flows"
 
 
-def state_verdict(runs: Runs, interval: Interval) -> list[str]:
+def state_verdict(runs: Runs, interval: Interval, jam: str = "") -> list[str]:
     """The answer for one plan, and sentences on how long trips take, and how many junctions are worse than D in the
-    interval that is shown, as plain texts."""
+    interval that is shown, as plain texts. jam: who waited to enter, or which knots there were,
+    in words, where the plan is doubted for it."""
     trip = f"A trip takes {mean_told(runs.mean_trips().values())} s on average."
-    works = [f"{page_works.worst_told(runs, one)}." for one in page_works.seen_in(runs)]
+    works = [
+        text for one in page_works.seen_in(runs)
+        for text in (page_works.closed_told(runs, one), *page_works.worst_told(runs, one))
+    ]
     levels = levels_of(runs, interval)
-    return [*state_answer(runs, worst_interval([runs])), *works, trip, *([levels] if levels else [])]
+    first, *texts = state_answer(runs, worst_interval([runs]))
+    if jam:
+        first = f"It does not flow: {jam}."
+    return [first, *works, *texts, trip, *([levels] if levels else [])]
 
 
 def state_answer(runs: Runs, worst: Interval) -> list[str]:
@@ -32,14 +43,16 @@ def state_answer(runs: Runs, worst: Interval) -> list[str]:
     movement, every = slowest([runs], worst), runs.intervals()
     flows = how_it_flows(runs, worst)
     all_rows = [row for (table, *_), rows in runs.rows.items() if table == "junctions" for row in rows.values()]
-    text = f"A vehicle loses {mean_told(mean_delays(all_rows).values())} s at a junction on average"
+    text = f"A vehicle loses {mean_told(mean_delays(all_rows).values())} s at "
+    text += f"{'the' if len(runs.rows['junctions', *worst]) == 1 else 'a'} junction on average"
     if len(every) > 1:
         those = mean_told(mean_delays(runs.rows["junctions", *worst].values()).values())
         text += f", {those} s in the worst time, {time_of_day(worst[0])} to {time_of_day(worst[1])}"
     text += f" (±: {interval_name(runs.is_drawn)})" if len(runs.folders) > 1 else ""
     if movement:
         called = f"{runs.names.movement(*movement.key[1:])} at {runs.names.junction_told(movement.key[0])}"
-        text += f", and with the worst movement, {called}, {movement.row.delay:.0f} s ({movement.row.letter()})"
+        delay = mean_told(values_by_seed(movement.row, "control_delay_s").values())
+        text += f", and with the worst movement, {called}, {delay} s ({movement.row.letter()})"
     texts = [f"{text}.", *lane_is_full(movement)]
     if doubts_of(runs):
         return [f"Not sure: here {flows}.", *texts]
@@ -47,20 +60,53 @@ def state_answer(runs: Runs, worst: Interval) -> list[str]:
         return [f"{flows[0].upper()}{flows[1:]}.", *texts]
     full = [one for one in worst_first(runs.places) if one.size > 1]
     if not full or flows == FLOWS:
-        return [f"Not sure: here {flows}, but what decides is doubted.", *texts]
-    more = f"{flows[0].upper()}{flows[1:]}: {why(full[0])}, {full[0].place_told(runs.names)}."
-    return [more, f"How long they wait is not sure. {texts[0]}", *texts[1:]]
+        return [f"Not sure: here {flows}, but the movements that wait most are doubted.", *texts]
+    told = f"{flows[0].upper()}{flows[1:]}. Worst: {full[0].place_told(runs.names)}: "
+    told += f"{why(full[0])}{in_worst(len(runs.folders))}."
+    return [told, f"{how_sure_at(runs, full[0])} {texts[0]}", *texts[1:]]
+
+
+def how_sure_at(runs: Runs, doubt: Doubt) -> str:
+    """A sentence on how sure it is that more wish to pass at the place of a doubt than can, and how long they wait."""
+    places_by_run = [folder.places for folder in runs.folders.values()]
+    full = [any(place_of(one) == place_of(doubt) and one.size > 1 for one in places) for places in places_by_run]
+    if len(full) == 1:
+        return "How long they wait is not sure."
+    often = f"{count_in_words(sum(full))} of {counted_noun(len(full), 'run')}"
+    return f"More wish to pass there than can in {often}; how long they wait is not sure."
 
 
 def how_it_flows(runs: Runs, interval: Interval) -> str:
-    """Whether it flows in an interval: not where a junction is worse than D, in part where a movement alone is."""
+    """Whether it flows in an interval: not where a junction is worse than D, in part where some movements are."""
     rows = runs.rows["junctions", *interval].values()
     bad = sum(level(row.delay, row.control) in BAD for row in rows)
     if bad:
         where = f" at {count_in_words(bad)} of {counted_noun(len(rows), 'junction')}" if len(rows) > 1 else ""
         return f"it does not flow{where}"
-    movement = slowest([runs], interval)
-    return f"{FLOWS}, but for single movements" if movement and movement.is_bad else FLOWS
+    movements = ranked_rows([runs], interval, "movements")
+    busy = [one for one in movements if one.row.means["vehicles_per_hour"] >= LEAST_HOURLY]
+    slow = [one for one in busy if one.is_bad]
+    if not slow:
+        return FLOWS
+    of_all = f"{count_in_words(len(slow))} of {counted_noun(len(busy), 'movement')}"
+    if len(rows) == 1 and (streets := bad_streets(runs, busy)):
+        return f"{FLOWS} on {streets[0]}, not on {streets[1]} ({of_all} at level E or F)"
+    if 2 * len(slow) < len(busy):
+        return f"{FLOWS}, but for {of_all} (level E or F)"
+    return f"{of_all} {'does' if len(slow) == 1 else 'do'} not flow (level E or F)"
+
+
+def bad_streets(runs: Runs, movements: Sequence[RowChange]) -> tuple[str, str] | None:
+    """(the streets of a junction from which no movement is bad, those from which half or more are), in words; None
+    where the movements are not so divided."""
+    by_street = defaultdict[str, list[bool]](list)
+    for one in movements:
+        street = runs.names.street(one.key[1]) or f"the street {runs.names.coming_from(one.key[1])}"
+        by_street[street].append(one.is_bad)
+    good = [street for street, own in by_street.items() if not any(own)]
+    bad = [street for street, own in by_street.items() if 2 * sum(own) >= len(own)]
+    divided = good and bad and len(good) + len(bad) == len(by_street)
+    return (" and ".join(good), " and ".join(bad)) if divided else None
 
 
 def levels_of(runs: Runs, interval: Interval) -> str:
@@ -70,7 +116,9 @@ def levels_of(runs: Runs, interval: Interval) -> str:
     doubted_count = len(rows) - len(sure)
     of_rows = counted_noun(len(rows), "junction")
     doubt = f" Levels of service of {count_in_words(doubted_count)} of {of_rows} are doubted."
-    doubt = (doubt if len(rows) > 1 else " Its level of service is doubted.") if doubted_count else ""
+    if len(rows) == 1:
+        doubt = f" The junction's level of service, here {rows[0].row.letter()}, is doubted."
+    doubt = doubt if doubted_count else ""
     if not sure:
         return doubt.strip()
     bad = sum(junction.is_bad for junction in sure)

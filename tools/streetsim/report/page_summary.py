@@ -11,17 +11,20 @@ from streetsim.model.doubts import MOST_TOLD, OF_WORKS, Doubt, Place, place_of, 
 from streetsim.model.loaded_lanes import forecast_doubts, loaded_lanes
 from streetsim.model.replications import told_of_days
 from streetsim.model.service import AT_PRIORITY, AT_SIGNALS, COLOURS
-from streetsim.report import page_works
+from streetsim.report import page_arms, page_works
 from streetsim.report.forecast_errors import error_told, errors_told, is_calibrated
 from streetsim.report.page_choice import NOTICED_SECONDS, RowChange, changes_that_stand_out
 from streetsim.report.page_drawings import letter_mark, service_keys, service_map
+from streetsim.report.page_hours import hours_table
 from streetsim.report.page_map import map_figure
 from streetsim.report.page_markup import bullets, change_told, mean_told, table
+from streetsim.report.page_movements import movements_table
+from streetsim.report.page_reasons import doubts_of, first_reason, jams_of, reasons_once
 from streetsim.report.page_state import state_verdict
 from streetsim.report.page_verdict import (
-    Interval, LEAST_HOURLY, are_drawn, change_verdict, doubts_of, is_doubted, kind_of_change, ranked_rows,
+    Interval, LEAST_HOURLY, are_drawn, change_verdict, is_doubted, kind_of_change, ranked_rows,
 )
-from streetsim.report.page_words import counted_noun, how_sure, why
+from streetsim.report.page_words import counted_noun, how_sure, size_told, why
 from streetsim.report.plan_costs import NOTICED, Means, PlanCosts, costs_of, means_by_class
 from streetsim.report.plan_differences import difference_of
 from streetsim.report.run_tables import Runs
@@ -31,6 +34,16 @@ LONG = 160  # letters of a warning on the first page
 BUS = "bus"  # SUMO's class, which is told first
 CALLED = {BUS: "buses", "passenger": "cars"}  # others have SUMO's name
 MOST_PLACES = 8  # doubted, on the first page
+# How often such places were far off is by bench/run doubted-rows, how far what works add by bench/run works.
+UNSURE = (
+    "where nearly as many wish to pass as can, or more, a few vehicles more or less change the wait by minutes. Beside "
+    "another simulator two of three such places were off by more than a quarter"
+)
+ANSWER_HOLDS = (
+    " That more come than the open lane lets through holds all the same, as it is by counts; waits and queues are not "
+    "sure."
+)
+UNSURE_WORKS = ", and what works add to a trip by up to five minutes"
 
 
 def common_seeds(plans: Sequence[Runs]) -> int:
@@ -50,10 +63,13 @@ def question_html(question: str, plans: Sequence[Runs], interval: Interval) -> s
     last_plan, setting = plans[-1], plans[-1].first_folder.setting
     names = [runs.name for runs in plans]
     two = len(names) == 2
-    usual = f"What changes if '{names[1]}' takes the place of '{names[0]}'?" if two else f"How does '{names[0]}' flow?"
+    usual = f"How does the plan '{names[0]}' flow?"
+    if two:
+        usual = f"What changes if the plan '{names[1]}' takes the place of the plan '{names[0]}'?"
+    first, count = last_plan.departing(setting.get("until", 0))
+    vehicles = f"{count:,.0f} vehicle{'' if count == 1 else 's'}"
     runs_text = (
-        f"{last_plan.vehicles:,.0f} vehicles from {time_of_day(setting.get('start', 0))} "
-        f"to {time_of_day(setting.get('until', 0))}; "
+        f"{vehicles} from {time_of_day(first)} to {time_of_day(setting.get('until', 0))}; "
         f"{counted_noun(len(last_plan.rows['junctions', *interval]), 'junction')}, "
         f"shown from {time_of_day(interval[0])} to {time_of_day(interval[1])}; "
         f"{counted_noun(len(last_plan.folders), 'run')} of {'each' if two else 'the'} plan, simulated by streetsim; "
@@ -68,54 +84,79 @@ def question_html(question: str, plans: Sequence[Runs], interval: Interval) -> s
 def verdict(plans: Sequence[Runs], interval: Interval) -> str:
     """The answer, a list of its figures, and the worst doubts, as HTML, with a mark where runs are not to be
     trusted."""
-    said, *figures = change_verdict(plans, interval) if len(plans) == 2 else state_verdict(plans[0], interval)
-    untrusted = [f"{runs.name}, as {first_reason(runs)}" for runs in plans if doubts_of(runs)]
+    if len(plans) == 2:
+        (first, *texts), figures = change_verdict(plans, interval)
+    else:
+        (first, *texts), figures = state_verdict(plans[0], interval, jams_of(plans[0])), []
+    figures_html = f'<p class="small">The figures behind it:</p><div class="small">{bullets(figures)}</div>'
+    if not texts:
+        texts, figures_html = figures, ""
+    untrusted = [f"the plan '{runs.name}', as {first_reason(runs)}" for runs in plans if doubts_of(runs)]
     told = f"Not to be trusted: {'; '.join(untrusted)} (all reasons: below)."
+    told += ANSWER_HOLDS if untrusted and any(page_works.advice(plans[-1])) else ""
     mark = f'<p class="doubt">{escape(told)}</p>' if untrusted else ""
-    return f'{mark}<p class="verdict">{escape(said)}</p>{bullets(figures)}{doubted_line(plans)}'
-
-
-def first_reason(runs: Runs) -> str:
-    """Why a plan is not to be trusted, by the reason that leaves most out of its figures, without its seed."""
-    edges = dict.fromkeys(one.edge for one in runs.places if one.kind == OF_WORKS)
-    if left := [clock for clock in (page_works.left_at(runs, edge) for edge in edges) if clock is not None]:
-        at = time_of_day(min(left))
-        return f"the queue before the works reaches the end of the network at {at}: who waits beyond is in no figure"
-    reasons = [text.partition(": ")[2] for text in doubts_of(runs)]
-    return next((text for text in reasons if "is in no queue" in text or "are in no queue" in text), reasons[0])
+    answer = f'{mark}<p class="verdict">{escape(first)}</p>{hours_table(plans)}{bullets(texts)}{doubted_line(plans)}'
+    return answer + (figures_html if figures else "")
 
 
 def doubted_line(plans: Sequence[Runs]) -> str:
     """The worst doubted places of all plans, as HTML; empty where there are none."""
-    names, places = plans[-1].names, worst_first(place for runs in plans for place in runs.places)
-    told = "; ".join(f"{one.place_told(names)}{with_plan(one, plans)}: {why(one)}" for one in places[:MOST_TOLD])
-    more = f"; and {counted_noun(len(places) - MOST_TOLD, 'other place')}" if len(places) > MOST_TOLD else ""
-    return f'<p class="doubt">Why it is not sure: {escape(told + more)}.</p>' if places else ""
+    names, by_place = plans[-1].names, doubts_by_place(plans)
+    places = worst_first(place for runs in plans for place in runs.places)
+    texts = [
+        f"{place.place_told(names)}: {why(worst_of(found))}{with_plans(found, plans)}"
+        for place, found in ((place, by_place[place_of(place)]) for place in places[:MOST_TOLD])
+    ]
+    more = [f"and {counted_noun(len(places) - MOST_TOLD, 'other place')}"] if len(places) > MOST_TOLD else []
+    worst = f", each by the worst of {counted_noun(common_seeds(plans), 'run')}" if common_seeds(plans) > 1 else ""
+    of_works = UNSURE_WORKS if any(place.kind == OF_WORKS for place in places) else ""
+    head = f"{UNSURE}{of_works}. Doubted so{worst}: " if any(place.size for place in places[:MOST_TOLD]) else ""
+    text = f"Why it is not sure: {head}{'; '.join([*texts, *more])}."
+    return f'<p class="doubt">{escape(text)}</p>' if places else ""
 
 
-def with_plan(doubt: Doubt, plans: Sequence[Runs]) -> str:
-    """With which of two plans a doubt is, behind a comma; empty of one plan."""
-    names = [runs.name for runs in plans if doubt in runs.places]
-    return f", with '{names[0]}'" if len(plans) > 1 and names else ""
+def doubts_by_place(plans: Sequence[Runs]) -> dict[Place, list[tuple[str, Doubt]]]:
+    """By place, whatever its times, (plan, its worst doubt) of the plans that have one there."""
+    found = defaultdict[Place, list[tuple[str, Doubt]]](list)
+    for runs in plans:
+        for doubt in worst_first(runs.places):
+            found[place_of(doubt)].append((runs.name, doubt))
+    return found
+
+
+def worst_of(found: Sequence[tuple[str, Doubt]]) -> Doubt:
+    """The doubt of the greatest size of a place."""
+    return max((doubt for _, doubt in found), key=lambda doubt: doubt.size)
+
+
+def with_plans(found: Sequence[tuple[str, Doubt]], plans: Sequence[Runs]) -> str:
+    """With which of two plans a place is doubted, and how much, in brackets; empty of one plan."""
+    told = ", ".join(f"'{name}'{size_told(doubt.size)}" for name, doubt in found)
+    return f" ({told})" if len(plans) > 1 else ""
 
 
 def places_table(plans: Sequence[Runs]) -> str:
     """A table, as HTML, of the doubted places, the worst MOST_PLACES of all plans, of each place the worst; empty where
     there are none."""
-    names, with_plans = plans[-1].names, defaultdict[Place, list[str]](list)
-    for runs in plans:
-        for doubt in worst_first(runs.places):
-            size = f" ({doubt.size:.2f})" if doubt.size and len(plans) > 1 else ""
-            with_plans[place_of(doubt)].append(f"{runs.name}{size}")
+    names, by_place = plans[-1].names, doubts_by_place(plans)
     places = worst_first(place for runs in plans for place in runs.places)
     rows = [
-        [escape(one.place_told(names)), escape(" and ".join(with_plans[place_of(one)])), escape(why(one)), one.touches]
+        [
+            escape(one.place_told(names)), escape(plans_told(by_place[place_of(one)], plans)),
+            escape(why(worst_of(by_place[place_of(one)]))), one.touches,
+        ]
         for one in places[:MOST_PLACES]
     ]
     left = len(places) - MOST_PLACES
     told = f'<p class="small">{counted_noun(max(0, left), "further place")}: column doubt of the tables.</p>'
     more = told if left > 0 else ""
     return table(["doubted", "with", "why", "what it touches"], rows, names=4) + more if rows else ""
+
+
+def plans_told(found: Sequence[tuple[str, Doubt]], plans: Sequence[Runs]) -> str:
+    """The plans with which a place is doubted, of two with how much."""
+    sizes = [f" ({size_told(doubt.size).strip()})" if doubt.size and len(plans) > 1 else "" for _, doubt in found]
+    return " and ".join(name + size for (name, _), size in zip(found, sizes, strict=True))
 
 
 def service_and_works_map(runs: Runs, interval: Interval, rows: Sequence[RowChange] = (), detailed: int = 0) -> str:
@@ -139,7 +180,20 @@ def service_and_works_map(runs: Runs, interval: Interval, rows: Sequence[RowChan
     marks += f"; small: by less than {NOTICED_SECONDS:g} s; none where it is doubted"
     caption = f"{escape(runs.name)}: approaches and junctions by level of service{marks if signs else ''}"
     keys = service_keys({letter for letter, _ in approaches.values()}, bool(closed))
-    return map_figure(picture, caption + levels_told(), keys)
+    return map_figure(picture, f"{caption}; approaches wider where it is worse{levels_told()}", keys)
+
+
+def alone_drawn(runs: Runs, interval: Interval) -> str:
+    """The picture of a page's one junction in an interval, with a legend, as HTML; empty where it has several, or
+    works, which the map shows."""
+    found = runs.rows["junctions", *interval]
+    if len(found) != 1 or page_works.seen_in(runs):
+        return ""
+    (name,) = next(iter(found))
+    when = f"{time_of_day(interval[0])} to {time_of_day(interval[1])}"
+    caption = f"{escape(runs.name)}, {when}. {escape(page_arms.KEY)}{levels_told()}"
+    picture = page_arms.junction_picture(runs, name, interval)
+    return f'<figure><div class="picture">{picture}</div><figcaption>{caption}</figcaption></figure>'
 
 
 def levels_told() -> str:
@@ -149,18 +203,19 @@ def levels_told() -> str:
         reach = [*map(str, bounds), "above"]
         letters = " ".join(f'<span class="ids">{letter_mark(one)} {up}</span>' for one, up in zip(COLOURS, reach))
         parts.append(f"{where} {letters}")
-    told = f"Seconds of delay up to which each reaches: {'; '.join(parts)}. Approaches are wider where it is worse."
+    told = f"Seconds of delay up to which each reaches: {'; '.join(parts)}."
     return f'<br><span class="small">{told}</span>'
 
 
 def costs(plans: Sequence[Runs], interval: Interval) -> str:
-    """What a plan costs whom, as HTML: the worst movements, trips by class, and with two plans how trips of the same
-    vehicles change, in all and by flow."""
+    """What a plan costs whom, as HTML: the worst movements, all of them of one junction, trips by class, and with two
+    plans how trips of the same vehicles change, in all and by flow."""
     texts = worst_movements(ranked_rows(plans, interval, "movements"), plans[-1])
+    tables = movements_table(plans, interval) + classes_table(plans)
     if len(plans) < 2:
-        return bullets(texts) + classes_table(plans)
+        return bullets(texts) + tables
     plan_costs = costs_of(*plans)
-    return bullets([*trips_told(plan_costs), *texts]) + classes_table(plans) + groups_table(plan_costs)
+    return bullets([*trips_told(plan_costs, common_seeds(plans)), *texts]) + tables + groups_table(plan_costs)
 
 
 def classes_table(plans: Sequence[Runs]) -> str:
@@ -193,16 +248,17 @@ def class_row(sides: Sequence[Mapping[int, Means]], drawn: bool) -> list[str]:
     return cells
 
 
-def trips_told(plan_costs: PlanCosts) -> list[str]:
+def trips_told(plan_costs: PlanCosts, seeds: int = 1) -> list[str]:
     """Sentences, plain text, on how many trips become slower or quicker, and how many arrive with one plan alone; one
-    that says so where no trip arrived with both."""
+    that says so where no trip arrived with both. seeds: how many runs of each plan they are of."""
+    runs = f" in {counted_noun(seeds, 'run')} together" if seeds > 1 else ""
     text = f"{plan_costs.lost:,} trips arrived before and do not now, {plan_costs.won:,} the other way round."
     alone = [text] if plan_costs.lost or plan_costs.won else []
     if not (count := len(plan_costs.changes)):
         return ["No trip arrived with both plans.", *alone]
     quicker, slower = (fmean(sign * change > NOTICED for change in plan_costs.changes) for sign in (-1, 1))
     text = (
-        f"Of {count:,} trips of the same vehicles {100 * quicker:.0f} % become quicker by more than {NOTICED} s, "
+        f"Of {count:,} trips of the same vehicles{runs} {100 * quicker:.0f} % become quicker by more than {NOTICED} s, "
         f"{100 * slower:.0f} % slower by more than {NOTICED} s"
     )
     tenth = plan_costs.changes[count * 9 // 10]
@@ -236,15 +292,15 @@ def worst_movements(movements: Sequence[RowChange], runs: Runs) -> list[str]:
         return []
 
     def called(movement: RowChange) -> str:
-        """What a movement is called, with its edges and junction."""
+        """What a movement is called, with its junction."""
         junction, edge, to = movement.key
-        ids = "" if names.street(edge) else f" ({edge} to {to})"
-        return f"{names.movement(edge, to)}{ids} at {names.junction_told(junction)}"
+        return f"{names.movement(edge, to)} at {names.junction_told(junction)}"
 
     worst = max(busy, key=lambda movement: movement.row.delay)
     level, hourly = worst.row.letter(), f"{worst.row.means['vehicles_per_hour']:.0f} vehicles an hour"
     sentence = f"{called(worst)}, {worst.row.delay:.0f} s, level of service {level}, {hourly}{doubt_told(worst)}"
-    texts = [f"Longest delay: {sentence}."]
+    away = " at a junction, away from the works" if page_works.seen_in(runs) else ""
+    texts = [f"Longest delay{away}: {sentence}."]
     losing = [
         (movement.change, movement)
         for movement in busy
@@ -255,7 +311,7 @@ def worst_movements(movements: Sequence[RowChange], runs: Runs) -> list[str]:
         sentence = f"{change.mean_after:.0f} s instead of {change.mean_before:.0f} s ({change.in_words()} s)"
         texts.append(f"Loses most: {called(most)}, {sentence}{doubt_told(most)}.")
     elif any(movement.change and movement.change.half is not None for movement in busy):
-        texts.append(f"No movement loses {how_sure(runs.is_drawn)}.")
+        texts.append(f"No movement is shown to lose{'' if runs.is_drawn else ' by more than chance'}.")
     return texts
 
 
@@ -269,9 +325,8 @@ def doubted(plans: Sequence[Runs], further_doubts: Sequence[str] = ()) -> str:
     as plain text."""
     texts = []
     for runs in plans:
-        doubts, places = doubts_of(runs), runs.places
-        texts += [f"{runs.name} is not to be trusted: {doubt}" for doubt in doubts]
-        if not doubts and not places:
+        texts += [f"{runs.name} is not to be trusted: {reason}" for reason in reasons_once(runs)]
+        if not doubts_of(runs) and not runs.places:
             texts.append(f"{runs.name}: nothing that a run checks of itself speaks against it.")
     texts += [*further_doubts, *growth_doubts(plans)]
     if len(plans) == 2 and (kind := kind_of_change(plans[0], plans[1])):

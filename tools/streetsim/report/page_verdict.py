@@ -3,12 +3,14 @@ hour, and for the worst movement; of works the vehicle-hours, those who pass, an
 from collections.abc import Collection, Iterator, Sequence
 
 from streetsim.base.words import time_of_day
-from streetsim.model.doubts import SPREAD
+from streetsim.model.doubts import MOST_TOLD, SPREAD, worst_first
 from streetsim.report import page_works
 from streetsim.report.forecast_errors import GROWTH, LANE, SPLIT, WAVE, ForecastError
 from streetsim.report.light_timings import timings_of
+from streetsim.report.page_hours import other_hours
 from streetsim.report.page_choice import RowChange, changes_that_stand_out, ranked_changes
-from streetsim.report.page_words import change_in_words, count_in_words, counted_noun, how_sure
+from streetsim.report.page_reasons import doubts_of
+from streetsim.report.page_words import change_in_words, count_in_words, counted_noun, how_sure, in_worst, why
 from streetsim.report.plan_differences import UNDECIDED, PlanDifference, difference_of, mean_delays
 from streetsim.report.run_tables import Runs
 
@@ -30,11 +32,6 @@ def are_drawn(plans: Sequence[Runs]) -> bool:
     return all(runs.is_drawn for runs in plans)
 
 
-def doubts_of(runs: Runs) -> list[str]:
-    """Why the runs of a plan are not to be trusted, each with its seed; empty where they are."""
-    return [f"seed {seed}: {doubt}" for seed, folder in runs.folders.items() for doubt in folder.doubts]
-
-
 def kind_of_change(runs_before: Runs, runs_after: Runs) -> ForecastError | None:
     """Of which kind a forecast is: works, more vehicles, other greens or other offsets, the first that there is; None
     where none of them is."""
@@ -49,25 +46,43 @@ def kind_of_change(runs_before: Runs, runs_after: Runs) -> ForecastError | None:
     return WAVE if any(one.offset != other.offset for one, other in known) else None
 
 
-def change_verdict(plans: Sequence[Runs], interval: Interval) -> list[str]:
-    """What the second of two plans changes, as plain texts: the answer, and then the figures for all, in the worst
-    interval and of the worst movement, of works those of the works."""
+def change_verdict(plans: Sequence[Runs], interval: Interval) -> tuple[list[str], list[str]]:
+    """What the second of two plans changes, as plain texts: the answer, behind which are the sentences of works, and
+    the figures for all, in the worst interval and of the worst movement."""
     trip = difference_of(*(runs.mean_trips() for runs in plans), drawn=are_drawn(plans))
     worst = worst_interval(plans)
     delay = delay_change(plans, worst)
-    texts = [answer(plans, trip, delay, worst)]
-    if kind_of_change(*plans) is LANE:
-        texts = [*page_works.advice(plans[1]), *texts]
-        texts += [f"{text[0].upper()}{text[1:]}." for text in works_told(plans, trip)]
+    answers, texts = [answer(plans, trip, delay, worst)], list[str]()
+    has_works = kind_of_change(*plans) is LANE
+    if has_works:
+        advice = [*page_works.advice(plans[1]), *(other_hours(plans[1]) if any(page_works.advice(plans[1])) else ())]
+        answers = [" ".join(advice) or answers[0], *works_told(plans, trip)]
+    doubted = bool(doubtful_plans(plans, worst))
     if trip:
         means = f"{trip.mean_after:.1f} s in place of {trip.mean_before:.1f} s"
-        texts.append(f"With '{plans[1].name}' a trip takes {means} on average: {change_in_words(trip)}.")
+        told = f"{change_in_words(trip)}{not_decided(trip, doubted)}"
+        texts.append(f"With '{plans[1].name}' a trip takes {means} on average: {told}.")
     if delay:
-        means = f"{delay.mean_after:.1f} s in place of {delay.mean_before:.1f} s{quarter_told(plans, worst)}"
-        texts.append(f"A vehicle's mean delay at a junction is {means}: {change_in_words(delay)}.")
+        means = f"{delay.mean_after:.1f} s in place of {delay.mean_before:.1f} s{quarter_told(plans, worst, has_works)}"
+        told = f"{change_in_words(delay)}{not_decided(delay, doubted)}"
+        texts.append(f"A vehicle's mean delay at a junction is {means}: {told}.")
     else:
         texts.append("No junction has vehicles with both plans.")
-    return [*texts, *worst_movement(plans, worst), *counted_changes(plans, interval)]
+    return answers, [*texts, *worst_movement(plans, worst, has_works), *counted_changes(plans, interval)]
+
+
+def not_decided(change: PlanDifference, doubted: bool) -> str:
+    """Why a change that stands out decides nothing, as the end of a sentence; empty where it does, or none stands
+    out."""
+    return "; that does not decide, as the movements that wait most are doubted" if (
+        doubted and change.stands_out()
+    ) else ""
+
+
+def doubtful_plans(plans: Sequence[Runs], worst: Interval) -> list[str]:
+    """The names of plans that are not to be trusted, or of which doubted movements have much of the delay in the worst
+    interval."""
+    return [runs.name for runs in plans if doubts_of(runs) or doubted_share(runs, worst) >= SPREAD]
 
 
 def answer(
@@ -81,14 +96,16 @@ def answer(
     of_worst = "" if len(plans[0].intervals()) < 2 else f" from {time_of_day(worst[0])} to {time_of_day(worst[1])}"
     if trip.half is None:
         return "Undecided: one run of each says nothing of chance (streetsim-run --seeds 1-5)."
-    if doubtful := [runs.name for runs in plans if doubts_of(runs) or doubted_share(runs, worst) >= SPREAD]:
-        doubt = f"what decides is doubted with {'both plans' if len(doubtful) > 1 else repr(doubtful[0])}"
+    if doubtful := doubtful_plans(plans, worst):
+        which = "both plans" if len(doubtful) > 1 else repr(doubtful[0])
+        doubt = f"the movements that wait most are doubted with {which}"
         if verdicts[0] == UNDECIDED:
             return f"Undecided: '{plans[1].name}' is not shown to be better or worse, and {doubt}."
         return f"Undecided, as {doubt}; here it is {verdicts[0]}."
+    listed = "" if are_drawn(plans) or {*verdicts} == {UNDECIDED} else ", with these departures alone"
     if verdicts[0] == verdicts[1] or not of_worst:
-        return f"{verdicts[0].capitalize()}{' for all, and in the worst time,' + of_worst if of_worst else ''}."
-    return f"{verdicts[0].capitalize()} for all, {verdicts[1]} in the worst time,{of_worst}."
+        return f"{verdicts[0].capitalize()}{' for all, and in the worst time,' + of_worst if of_worst else ''}{listed}."
+    return f"{verdicts[0].capitalize()} for all, {verdicts[1]} in the worst time,{of_worst}{listed}."
 
 
 def doubted_share(runs: Runs, interval: Interval) -> float:
@@ -117,11 +134,13 @@ def delay_change(plans: Sequence[Runs], interval: Interval) -> PlanDifference | 
     return difference_of(*delays, drawn=are_drawn(plans))
 
 
-def quarter_told(plans: Sequence[Runs], interval: Interval) -> str:
-    """When an interval is, as the worst of several; empty where there is one alone."""
+def quarter_told(plans: Sequence[Runs], interval: Interval, has_works: bool) -> str:
+    """When an interval is, as the worst of several; empty where there is one alone. With works, which have a worst time
+    of their own, as that of the junctions."""
     if len(plans[0].intervals()) < 2:
         return ""
-    return f" in the worst time, {time_of_day(interval[0])} to {time_of_day(interval[1])}"
+    whose = " of the junctions" if has_works else ""
+    return f" in the worst time{whose}, {time_of_day(interval[0])} to {time_of_day(interval[1])}"
 
 
 def slowest(plans: Sequence[Runs], interval: Interval) -> RowChange | None:
@@ -132,25 +151,33 @@ def slowest(plans: Sequence[Runs], interval: Interval) -> RowChange | None:
     return max(rows, key=lambda one: one.row.delay) if rows else None
 
 
-def worst_movement(plans: Sequence[Runs], interval: Interval) -> Iterator[str]:
-    """A sentence on the slowest movement of an interval, and how it changes; nothing where there is none."""
+def worst_movement(plans: Sequence[Runs], interval: Interval, has_works: bool = False) -> Iterator[str]:
+    """A sentence on the slowest movement of an interval, and how it changes; nothing where there is none. With works it
+    is told apart from the wait before these."""
     names = plans[-1].names
     if (worst := slowest(plans, interval)) is None:
         return
     called = f"{names.movement(*worst.key[1:])} at {names.junction_told(worst.key[0])}"
     change = f", {change_in_words(worst.change)}" if worst.change else ""
-    doubt = "; this is doubted" if worst.row.doubt else ""
-    yield f"The worst movement, {called}, waits {worst.row.delay:.0f} s ({worst.row.letter()}){change}{doubt}."
-    yield from lane_is_full(worst)
+    ratios = [f"{row.means['v_c']:.2f}" for row in (worst.row, worst.row_before) if row]
+    before = f" in place of {worst.row_before.delay:.0f} s" if worst.row_before else ""
+    ratio = f"v/c {' in place of '.join(dict.fromkeys(ratios))}"
+    doubt = "; this is doubted" if is_doubted(worst) else ""
+    waits = f"waits {worst.row.delay:.0f} s{before} ({worst.row.letter()}, {ratio})"
+    head = "Away from the works the worst movement" if has_works else "The worst movement"
+    yield f"{head}, {called}, {waits}{change}{doubt}."
+    yield from lane_is_full(worst, plans[-1].name if len(plans) > 1 else "")
 
 
-def lane_is_full(movement: RowChange | None) -> Iterator[str]:
+def lane_is_full(movement: RowChange | None, plan: str = "") -> Iterator[str]:
     """A sentence on the lane of a movement, with the last plan, where it is full in OFTEN of the cycles, as the queue
-    then stands before the lanes beside."""
+    then stands before the lanes beside. plan: its name, of two."""
     means = movement.row.means if movement else {}
     if means.get("full_percent", 0.0) >= OFTEN:
-        lane = f"Its lane, {means['storage_m']:.0f} m long, is full in {means['full_percent']:.0f} % of the cycles"
-        yield f"{lane}; in 95 % of them the queue reaches {means['queue_95_m']:.0f} m or less."
+        its = f"With '{plan}' its" if plan else "Its"
+        lane = f"{its} lane, {means['storage_m']:.0f} m long, is full in {means['full_percent']:.0f} % of the cycles"
+        behind = "and the queue goes on behind it: in 95 % of the cycles it ends within"
+        yield f"{lane}, {behind} {means['queue_95_m']:.0f} m of the stop line."
 
 
 def counted_changes(plans: Sequence[Runs], interval: Interval) -> Iterator[str]:
@@ -161,12 +188,15 @@ def counted_changes(plans: Sequence[Runs], interval: Interval) -> Iterator[str]:
         return
     sure = [one for one in rows if not is_doubted(one)]
     changed = [change > 0 for change in changes_that_stand_out(sure).values()]
-    less, more = (count_in_words(changed.count(up)) if up in changed else "none" for up in (False, True))
-    left = len(rows) - len(sure)
-    doubt = f"; {count_in_words(left)} {'is' if left == 1 else 'are'} doubted and not counted" if left else ""
-    junctions = counted_noun(len(rows), "junction")
+    doubted, same = len(rows) - len(sure), len(sure) - len(changed)
+    told = (
+        (changed.count(False), f"it is shorter {how_sure(are_drawn(plans))}"),
+        (changed.count(True), f"it is longer {how_sure(are_drawn(plans))}"), (same, "it is not shown to differ"),
+        (doubted, "it is doubted"),
+    )  # fmt: skip
+    parts = [f"at {count_in_words(count)} {what}" for count, what in told if count]
     when = f"from {time_of_day(interval[0])} to {time_of_day(interval[1])}"
-    yield f"At {less} of {junctions} the delay {when} is less {how_sure(are_drawn(plans))}, at {more} more{doubt}."
+    yield f"The wait at {counted_noun(len(rows), 'junction')} {when}: {', '.join(parts)}."
 
 
 def is_doubted(one: RowChange) -> bool:
@@ -174,17 +204,29 @@ def is_doubted(one: RowChange) -> bool:
     return bool(one.row.doubt or one.row_before and one.row_before.doubt)
 
 
+def also_before(runs: Runs) -> Iterator[str]:
+    """A sentence on the place of a plan without works where most more wish to pass than can, of the worst that are
+    told; nothing where there is none."""
+    one = max(worst_first(runs.places)[:MOST_TOLD], key=lambda place: place.size, default=None)
+    if one and one.size > 1:
+        yield f"Without the works, too, {why(one)}{in_worst(len(runs.folders))}: {one.place_told(runs.names)}."
+
+
 def works_told(plans: Sequence[Runs], trip: PlanDifference | None) -> Iterator[str]:
-    """Parts of a sentence on works: the vehicle-hours that all trips take more, who passes each place, its longest
-    queue and when that is, and its worst period."""
+    """Sentences on works: what is closed, the longest queue and when it is, who passes and how long one waits at worst,
+    and the vehicle-hours that all trips take more."""
+    for works in page_works.seen_in(plans[1]):
+        yield page_works.closed_told(plans[1], works)
+        yield from page_works.worst_told(plans[1], works)
+    yield from also_before(plans[0])
     if trip:
         hours = trip.change * plans[1].vehicles / 3600
         half = (trip.half or 0.0) * plans[1].vehicles / 3600
         if trip.half is not None and not trip.stands_out():
-            reach = f"between {half - hours:,.0f} vehicle-hours less and {hours + half:,.0f} more"
-            yield f"all trips together take {reach}: {counted_noun(len(plans[1].folders), 'run')} cannot say which"
+            reach = f"from {half - hours:,.0f} vehicle-hours less to {hours + half:,.0f} more"
+            runs = counted_noun(len(plans[1].folders), "run")
+            yield f"All drivers together: {runs} cannot say whether they lose time, {reach}."
         else:
             width = f" ± {half:,.0f}" if half else ""
-            yield f"all trips together take {abs(hours):,.0f}{width} vehicle-hours {'less' if hours < 0 else 'more'}"
-    for works in page_works.seen_in(plans[1]):
-        yield page_works.worst_told(plans[1], works)
+            lose = "win" if hours < 0 else "lose"
+            yield f"All drivers together {lose} {abs(hours):,.0f}{width} vehicle-hours."

@@ -2,6 +2,7 @@
 from streetsim.model.doubts import OF_WORKS, Doubt
 from streetsim.report.plan_differences import PlanDifference
 
+NEARLY, TWICE = 0.75, 2.0  # of what can pass; of more than that the share is one of a queue, and not told
 NUMBERS = ("no", "one", "two", "three", "four", "five", "six", "seven", "eight", "nine", "ten", "eleven", "twelve")
 
 
@@ -61,10 +62,31 @@ def change_in_words(difference: PlanDifference) -> str:
     return f"{change} ({intervals_in_words(difference)})"
 
 
+def times_as_many(share: float) -> str:
+    """How many wish to pass, as a share of those who can, more than 1."""
+    return "more than twice as many" if share > TWICE else f"up to {share:.2f} times as many"
+
+
+def in_worst(runs: int) -> str:
+    """That a number is of the worst of several runs, behind a comma; empty of one."""
+    return f", in the worst of {counted_noun(runs, 'run')}" if runs > 1 else ""
+
+
 def why(doubt: Doubt) -> str:
     """Why a place is doubted, in a councillor's words."""
     if not doubt.size:
         return doubt.why
-    more = f"up to {doubt.size:.2f} times as many wish to pass as can"
-    told = more if doubt.size > 1 else f"nearly as many wish to pass as can ({100 * doubt.size:.0f} %)"
-    return f"{told} ({doubt.why})" if doubt.kind == OF_WORKS else told
+    if doubt.size > 1:
+        share = f"{times_as_many(doubt.size)} wish to pass as can"
+    elif doubt.size < NEARLY:
+        share = f"who turns here waits for gaps ({100 * doubt.size:.0f} % of what can pass)"
+    else:
+        share = f"nearly as many wish to pass as can ({100 * doubt.size:.0f} %)"
+    if doubt.kind != OF_WORKS:
+        return share
+    return f"how long one waits, as {share.replace('wish to pass as can', 'come as the open lane passes')}"
+
+
+def size_told(size: float) -> str:
+    """How many wish to pass as a share of those who can, with two decimals; empty where it is not known."""
+    return f" over {TWICE:.0f}" if size > TWICE else f" {size:.2f}" if size else ""

@@ -11,12 +11,12 @@ from streetsim.base.colours import LINE, OTHER_LINE
 from streetsim.base.shapes import point_along
 from streetsim.base.words import time_of_day
 from streetsim.model import tables
-from streetsim.model.doubts import OF_WORKS, QUEUES, worst_first
+from streetsim.model.doubts import OF_WORKS, QUEUES, Doubt, place_of, worst_first
 from streetsim.model.folder import Folder
 from streetsim.model.mapping import Map, Shape
 from streetsim.report.edge_values import traffic_of
 from streetsim.report.page_markup import change_told, table
-from streetsim.report.page_words import how_sure
+from streetsim.report.page_words import how_sure, in_worst
 from streetsim.report.plan_differences import PlanDifference, difference_of
 from streetsim.report.run_tables import Runs
 
@@ -25,6 +25,7 @@ LEAST_FLOW_CHANGE = 20.0  # vehicles an hour that an edge wins or loses, to be t
 MOST_EDGES = 6  # edges told that win, and that lose
 # Of works.csv, what stands on the page.
 CAPACITY = "capacity_per_hour"
+MINUTE = 60  # seconds
 MEANS = ("vehicles", CAPACITY, "mean_delay_s", "queue_50_m", "queue_95_m")
 OTHER_HOURS = "Other hours beside each other: streetsim-study with --close-at."
 GREATEST = ("greatest_delay_s", "queue_max_m", "longest_stand_s")
@@ -116,8 +117,7 @@ def place_told(runs: Runs, works: SeenWorks) -> str:
     """Works at one place, as HTML: where, when, a table by period, and the queue over time."""
     edge, lane, begin, end = works.place_key
     first, last = works.span()
-    street = f"{runs.names.street(edge)} ({edge})" if runs.names.street(edge) else edge
-    where = f"{street}, {runs.names.coming_from(edge)}, lane {lane}, {float(begin):.0f} to {float(end):.0f} m"
+    where = f"{runs.names.street_told(edge)} ({edge}), lane {lane}, {float(begin):.0f} to {float(end):.0f} m"
     title = f"{runs.name}: {where}, from {time_of_day(first)} to {time_of_day(last)}"
     head = ["period", "passed", "least/h with a queue", "mean delay, s", "queue 50 %, m", "95 %", "greatest delay, s"]
     head += ["greatest queue, m", "longest stand, s"]
@@ -139,9 +139,17 @@ def advice(runs: Runs) -> Iterator[str]:
     for one in worst_first(runs.places)[:1]:
         if one.kind == OF_WORKS and one.size > 1:
             times = f"{time_of_day(one.begin)} to {time_of_day(one.end)}"
-            more = f"up to {one.size:.2f} times as many"
-            said = "these runs do not say that it may be closed"
-            yield f"From {times} more come than the open lane passes, {more}: {said}."
+            yield f"Not from {times}: more vehicles come than the open lane lets through, {coming_told(runs, one)}."
+
+
+def coming_told(runs: Runs, doubt: Doubt) -> str:
+    """How many vehicles come an hour to works that are doubted, and how many the open lane lets through, by the worst
+    of the runs."""
+    found = (one for folder in runs.folders.values() for one in folder.places if place_of(one) == place_of(doubt))
+    worst = max(found, key=lambda one: one.size)
+    hourly = worst.vehicles * 3600 / max(1, worst.end - worst.begin)
+    passes = round(hourly / worst.size, -2)
+    return f"{hourly:,.0f} an hour where some {passes:,.0f} pass{in_worst(len(runs.folders))}"
 
 
 def left_at(runs: Runs, edge: str) -> int | None:
@@ -152,26 +160,50 @@ def left_at(runs: Runs, edge: str) -> int | None:
     return min(left) // 60 * 60 if left else None
 
 
-def worst_told(runs: Runs, works: SeenWorks) -> str:
-    """Who passes works, their longest queue and when it is, and the worst period, as a part of a sentence."""
+def closed_told(runs: Runs, works: SeenWorks) -> str:
+    """What is closed, where and when, as a sentence."""
+    (edge, _, begin, end), (first, last) = works.place_key, works.span()
+    metres = float(end) - float(begin)
+    where = f"{metres:.0f} m of a lane of {runs.names.street_told(edge)}"
+    return f"Closed: {where}, from {time_of_day(first)} to {time_of_day(last)}."
+
+
+def worst_told(runs: Runs, works: SeenWorks) -> list[str]:
+    """Sentences on the longest queue before works and when it is, who passes, how long one waits at worst, and when one
+    waits less than a minute."""
     def delay(own: Sequence[dict[str, str]]) -> float:
         """The mean delay of a period over the seeds."""
         return float(mean_of(own, "mean_delay_s") or 0)
 
-    edge, street = works.place_key[0], runs.names.street(works.place_key[0])
-    place = f"on {street}, {runs.names.coming_from(edge)};" if street else f"on {edge};"
     passing = sum(float(mean_of(own, "vehicles") or 0) for own in works.rows.values())
     (begin, end), longest = max(works.rows.items(), key=lambda item: float(most_of(item[1], "queue_max_m") or 0))
     (first, last), worst = max(works.rows.items(), key=lambda item: delay(item[1]))
-    metres, left = most_of(longest, "queue_max_m") or "0", left_at(runs, edge)
-    queue = f"the longest queue is {metres} m, from {time_of_day(begin)} to {time_of_day(end)}"
+    metres, left = most_of(longest, "queue_max_m") or "0", left_at(runs, works.place_key[0])
+    queue = f"Queue: {metres} m at the longest, from {time_of_day(begin)} to {time_of_day(end)}."
     if left is not None:
-        queue = f"the queue first reaches the end of the network, {metres} m, at {time_of_day(left)}, and who waits "
-        queue += "beyond it is in no figure"
-    return (
-        f"{passing:,.0f} vehicles pass the works {place} {queue}; in the worst time, {time_of_day(first)} to "
-        f"{time_of_day(last)}, one who passes waits {delay(worst):.0f} s"
-    )
+        reach = f"it reaches the end of the network, {metres} m back, from {time_of_day(left)}"
+        reach += in_worst(len(runs.folders))
+        queue = f"Queue: {reach}; vehicles that wait beyond are not counted."
+    wait = f"Wait: in the worst time, {time_of_day(first)} to {time_of_day(last)}, one who passes the works waits "
+    wait += f"{delay(worst):.0f} s{minutes_told(delay(worst))}; {passing:,.0f} vehicles pass in all."
+    calm = [period for period in works.rows if delay(works.rows[period]) < MINUTE]
+    times = ", ".join(f"{time_of_day(begin)} to {time_of_day(end)}" for begin, end in spans_of(calm))
+    none = f"One waits below a minute from {times} alone." if calm else "In no period one waits less than a minute."
+    return [queue, wait, f"One waits below a minute all the time." if len(calm) == len(works.rows) else none]
+
+
+def spans_of(periods: Iterable[tuple[int, int]]) -> list[tuple[int, int]]:
+    """Periods (begin, end), those that follow each other as one."""
+    spans: list[tuple[int, int]] = []
+    for begin, end in sorted(periods):
+        joins = bool(spans) and spans[-1][1] == begin
+        spans[-1:] = [(spans[-1][0], end)] if joins else [*spans[-1:], (begin, end)]
+    return spans
+
+
+def minutes_told(seconds: float) -> str:
+    """Some seconds in minutes, in brackets, from two minutes on; else empty."""
+    return f" (some {seconds / 60:.0f} minutes)" if seconds >= 120 else ""
 
 
 def mean_of(rows: Iterable[dict[str, str]], name: str) -> str:

@@ -1,6 +1,6 @@
 """What reports, maps and exports read: the folders of a run, one for each seed, and their junction tables."""
 import os
-from collections import defaultdict
+from collections import Counter, defaultdict
 from collections.abc import Collection, Mapping, Sequence
 from dataclasses import dataclass, field
 from statistics import fmean
@@ -8,7 +8,7 @@ from typing import Any
 
 from streetsim.base.files import Fault
 from streetsim.base.report import first_few
-from streetsim.model.doubts import Doubt, doubts_by_seed
+from streetsim.model.doubts import OF_WORKS, Doubt, doubts_by_seed, place_of
 from streetsim.model.folder import NAME, Folder, read_folder, seeds_in
 from streetsim.model.names import Names
 from streetsim.model.replications import is_drawn
@@ -81,10 +81,22 @@ class Runs:
         """How many vehicles a run had, in the mean over the seeds."""
         return fmean(folder.vehicles for folder in self.folders.values())
 
+    def departing(self, until: int) -> tuple[int, float]:
+        """(the whole minute, in seconds, in which the first vehicle wishes to depart, how many do before a clock, in
+        the mean over the seeds); (0, 0) where nobody does. until: the clock, seconds."""
+        clocks = [[int(row["depart"]) for row in folder.trips()] for folder in self.folders.values()]
+        early = [[clock for clock in own if clock < until] for own in clocks]
+        first = min((clock for own in early for clock in own), default=0)
+        return first // 60 * 60, fmean(map(len, early))
+
     @property
     def places(self) -> list[Doubt]:
-        """The doubts of its runs with their places, of each place the worst, the worst first."""
-        return doubts_by_seed({seed: folder.places for seed, folder in self.folders.items()})
+        """The doubts of its runs with their places, of each place the worst, the worst first: of works, and what half
+        of the runs or more doubt, as of rows."""
+        found = {seed: folder.places for seed, folder in self.folders.items()}
+        runs = Counter(place for doubts in found.values() for place in {place_of(one) for one in doubts})
+        half = [place for place, count in runs.items() if 2 * count >= len(found)]
+        return [one for one in doubts_by_seed(found) if one.kind == OF_WORKS or place_of(one) in half]
 
     def mean_trips(self) -> dict[int, float]:
         """{seed: mean trip in seconds of those who arrived}; seeds in which nobody did are left out."""
@@ -188,6 +200,8 @@ def of_most(doubts: Sequence[str], seeds: Collection[int]) -> str:
 
 def means_over_seeds(seeds: Mapping[int, Mapping[str, float]]) -> dict[str, float]:
     """{measure: its mean over the seeds that have it}, of the greatest queue the greatest."""
+    if len(seeds) == 1:
+        return dict(next(iter(seeds.values())))
     names = {name for values in seeds.values() for name in values}
     found = {name: fmean(values[name] for values in seeds.values() if name in values) for name in names}
     if "queue_max_m" in found:

@@ -88,7 +88,7 @@ def doubt_rows(runs: Runs, names: Names) -> Iterator[Row]:
     for seed, folder in runs.folders.items():
         for doubt in folder.places:
             end = doubt.end or None
-            place = doubt.place_told(names)
+            place = doubt.place_told(names, ids=True)
             yield seed, place, doubt.why, doubt.touches, doubt.begin, end, doubt.vehicles or None
 
 

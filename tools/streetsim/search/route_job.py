@@ -6,7 +6,8 @@ from dataclasses import asdict, dataclass
 from functools import partial
 from statistics import fmean
 
-from streetsim.base.files import Json, whole_folder
+from streetsim.base.files import Json, whole_folder, write_setting
+from streetsim.base.folders import SETTING
 from streetsim.base.program import proof_note
 from streetsim.base.progress import Stopping
 from streetsim.model.tables import write_table
@@ -16,7 +17,7 @@ from streetsim.search.route_diverting import (
 )
 from streetsim.search.route_drawing import draw_search
 from streetsim.search.route_loading import RouteTown, write_loaded
-from streetsim.search.route_results import FLOWS, NAME, check_figures, flow_rows, write_results, write_setting
+from streetsim.search.route_results import FLOWS, check_figures, flow_rows, write_results
 from streetsim.search.route_search import Iteration, RouteSearch, RouteSettings, has_stalled
 from streetsim.search.route_team import Team
 from streetsim.search.route_watching import RunGround
@@ -101,7 +102,7 @@ def write_found(job: Job, all_diverted: Sequence[Diverted]) -> None:
             paths = (path_for_share(path, diverted.share, many_shares) for path in (target.run, target.map))
             town = diverted.search.town
             write_loaded(town.loaded(diverted.trips, doubted=True), town, routes, *paths)
-    with whole_folder(target.folder, NAME) as folder:
+    with whole_folder(target.folder, SETTING) as folder:
         for diverted in written:
             subfolder = f"{folder}/{diverted.label.replace(' ', '-')}" if many_shares else folder
             os.makedirs(subfolder, exist_ok=True)

@@ -1,10 +1,9 @@
 """The files of a search: its iterations, the check by other seeds, movements, trips and the setting."""
-import json
 from collections import Counter
 from collections.abc import Iterator, Sequence
 from statistics import fmean
 
-from streetsim.base.files import Json, whole_file
+from streetsim.base.files import Json, write_setting
 from streetsim.base.seeds import mean_and_half_width
 from streetsim.model.tables import write_table
 from streetsim.search.route_diverting import Diverted
@@ -14,7 +13,6 @@ from streetsim.sumo.trips import Trip
 from streetsim.sumo.way_costs import mean_observed
 from streetsim.sumo.way_graph import END, Graph
 
-NAME = "setting.json"
 ITERATIONS = (
     *("iteration", "mean_trip_s", "arrived", "rescues", "relative_gap", "mean_way_s", "may_change", "changed"),
     "taken_back",
@@ -33,13 +31,6 @@ def write_results(folder: str, diverted: Diverted, setting: Json) -> None:
     write_table(f"{folder}/movements.csv", MOVEMENTS, movement_rows(diverted.search.ground, diverted.judged))
     write_table(f"{folder}/trips.csv", TRIPS, trip_rows(diverted.trips, diverted.judged))
     write_setting(folder, {**setting, **check_figures(diverted.judged)})
-
-
-def write_setting(folder: str, setting: Json) -> None:
-    """Writes setting.json to a folder. Fault where it cannot be written."""
-    with whole_file(f"{folder}/{NAME}") as file:
-        json.dump(setting, file, indent=1)
-        file.write("\n")
 
 
 def iteration_rows(iterations: Sequence[Iteration]) -> Iterator[tuple]:

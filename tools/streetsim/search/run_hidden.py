@@ -93,7 +93,7 @@ class HiddenSeconds(Observer):
 
     def begin(self, kernel: Kernel) -> None:
         """Nothing is hidden yet."""
-        self.kernel = kernel
+        self.kernel, kernel.keeps_gaps = kernel, True
         self.shares: HiddenShares = {}
 
     def end(self, clock: int) -> None:

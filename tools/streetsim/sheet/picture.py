@@ -16,13 +16,20 @@ LEAST_SEEN, MOST_SEEN, BEYOND = 45.0, 160.0, 25.0  # metres from the middle
 LANE_WIDTH = 3.0  # metres
 ASPHALT, PAINT, INK = "#6b6f76", "#ffffff", "#20242a"
 HOUR, QUARTER = 3600, 900  # seconds
+LEGEND = (
+    "", "Legend", "    L left, T straight on, R right, U back; > and an arm where several lead to one side",
+    "    lane 1 is at the kerb; arrows: where a lane leads; white bars: stop lines",
+    "    numbers behind turns: vehicles of the busiest hour",
+    "    phases: green ways go first, dashed orange ones wait for gaps; green dashes: pedestrians;",
+    "    below: green + yellow + red for all, in seconds",
+)
 
 
 def picture_of(layout: SheetLayout, files: PlainFiles, network: BuiltNetwork) -> str:
     """The picture of a layout."""
     parts, top = [], 0.0
     for junction in layout.junctions.values():
-        rows = lines_of(junction)
+        rows = [*lines_of(junction), *LEGEND]
         high = max(SIDE, LINE * (len(rows) + 3))
         parts.append(f'<g transform="translate(0 {top:.0f})">{junction_drawn(layout, junction, files, network)}</g>')
         parts.append(text_block(rows, SIDE + 20, top + 2 * LINE))

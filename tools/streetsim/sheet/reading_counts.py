@@ -1,5 +1,6 @@
 """Reads the counts of a sheet: vehicles by movement and period, totals of hours split by a profile."""
-from collections.abc import Mapping, Sequence
+from collections import Counter
+from collections.abc import Iterator, Mapping, Sequence
 
 from streetsim.base.words import time_of_day
 from streetsim.demand.grids import GridCell, GridRow
@@ -11,6 +12,7 @@ from streetsim.sheet.slips import Slips
 
 Profile = list[tuple[int, float]]  # (begin of a quarter of an hour, weight), rising
 QUARTER = 900  # seconds
+USUAL_MOST = 1_000.0  # vehicles an hour that a lane before a junction usually passes at most
 
 
 def read_counts_block(
@@ -35,6 +37,8 @@ def read_counts_block(
     vehicles = sum(count.vehicles for count in table.counts)
     begin, end = min(count.begin for count in table.counts), max(count.end for count in table.counts)
     lines = [f"counts: {table.habit}, {vehicles:,.0f} vehicles from {time_of_day(begin)} to {time_of_day(end)}"]
+    lines += [f"{name}: {told}" for name, told in map(busiest_told, layout.junctions.values()) if told]
+    lines += [line for junction in layout.junctions.values() for line in rates_told(junction)]
     if any(count.end - count.begin >= HOUR for count in table.counts):
         how = "split by the shares of PROFILE" if shares else "even over each hour (a block PROFILE has shares)"
         lines.append(f"totals of hours: {how}")
@@ -112,6 +116,35 @@ def refuse_twice(junction: Junction, slips: Slips) -> None:
             slips.add(count.cell, f"this movement is counted twice from {time_of_day(count.begin)}",
                        f"leave this or {before[-1].cell.place} out")
         before.append(count)
+
+
+def rates_told(junction: Junction) -> Iterator[str]:
+    """A line on the first row of less than an hour in which more come from an arm than its lanes usually pass, as where
+    a row of a quarter of an hour has vehicles an hour."""
+    parts = Counter(count.cell.place for count in junction.counts)  # several of a cell that was split
+    found: dict[tuple[str, int, int], list[MovementCount]] = {}
+    for count in junction.counts:
+        if parts[count.cell.place] == 1:
+            found.setdefault((count.movement[0], count.begin, count.end), []).append(count)
+    for (arm, begin, end), counts in found.items():
+        lanes, hourly = len(junction.arms[arm].lanes), sum(one.vehicles for one in counts) * HOUR / (end - begin)
+        if hourly > USUAL_MOST * lanes:
+            those = f"{hourly:,.0f} vehicles an hour come from arm {arm} on {lanes} lane{'s' * (lanes > 1)}"
+            yield (
+                f"{counts[0].cell.place}: from {time_of_day(begin)} to {time_of_day(end)} {those}: where rows have "
+                "vehicles an hour, give each the hour as its period"
+            )
+            return
+
+
+def busiest_told(junction: Junction) -> tuple[str, str]:
+    """(a junction's name, how many vehicles its busiest hour has, by rows that begin in it), so that who wrote rates of
+    an hour into shorter rows sees it; nothing without counts."""
+    hours = [
+        sum(count.vehicles for count in junction.counts if begin <= count.begin < begin + HOUR)
+        for begin in {count.begin for count in junction.counts}
+    ]
+    return junction.name, f"{max(hours):,.0f} vehicles in its busiest hour" if hours else ""
 
 
 def cells_by_movement(junction: Junction) -> Mapping[tuple[str, str], GridCell]:

@@ -10,12 +10,13 @@ from tempfile import TemporaryDirectory
 
 from streetsim.base.files import FilePath, whole_file
 from streetsim.base.words import ROUNDS, names_in
+from streetsim.cli.sumo_words import IMPORTED
 from streetsim.model.replications import DRAWN
 from streetsim.observe.sumo_kinds import DETAILS, OutputFile
 from streetsim.simulation.confining import why_not_written
 from streetsim.simulation.errors import FatalTraCIError
 from streetsim.model.kept_imports import keep_files, key_of, read_kept
-from streetsim.simulation.options import IMPORTED, LOGS, NO_FILE, read_options, unwritten_of, warnings_of
+from streetsim.simulation.options import LOGS, NO_FILE, read_options, unwritten_of, warnings_of
 from streetsim.simulation.script_settings import ScriptSettings
 from streetsim.simulation.session import TraciSession
 from streetsim.simulation.street_facts import read_facts

@@ -5,6 +5,7 @@ from difflib import get_close_matches
 
 from streetsim.base.files import Fault, seconds
 from streetsim.base.words import FALSE, MOST_ROUNDS
+from streetsim.cli.sumo_words import IMPORTED
 from streetsim.control.bus_planned import MOST_SEEN
 from streetsim.model.replications import DRAWN, LISTED
 from streetsim.observe.sumo_kinds import DETAILS
@@ -26,10 +27,6 @@ INPUTS = {
 }
 SAVED = "save-configuration"  # the file to which the options are written; no run is made
 LOGS = ("log", "message-log", "error-log")  # files that get what the import says
-IMPORTED = {
-    "seed", "begin", "classes", "joint", "turns", "sizes", "dawdle", "change", "zone", "residence", "buffer",
-    "permissive", "speed-factor", "cut", "drivers", "part",
-}
 # What would change the demand or the run, and what to do instead.
 REFUSED = {
     "scale": "make the routes of the demand that is wanted",

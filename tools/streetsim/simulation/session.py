@@ -6,6 +6,7 @@ from pathlib import Path
 
 from streetsim.base.arrays import numpy as np
 from streetsim.base.client import read_reply
+from streetsim.base.files import note_kept
 from streetsim.control.works_asked import all_works
 from streetsim.control.works_sites import with_works
 from streetsim.kernel.loop import NEVER, Controller, Kernel, own_line
@@ -130,6 +131,7 @@ class TraciSession(Simulation, Doer):
         finally:
             if self.writer is not None:
                 self.writer.close()
+                note_kept("the outputs")
 
     def step(self, time: float = 0) -> None:
         """As Simulation.step; then the lists of who was loaded, departed and arrived are of its steps alone."""

@@ -8,6 +8,7 @@ from typing import NamedTuple
 from streetsim.control.bus_fleet import dwells
 from streetsim.model import trust
 from streetsim.model.freeflow import Alone, FreeFlow
+from streetsim.model.knots import knots_of
 from streetsim.simulation.session import TraciSession
 
 
@@ -70,7 +71,8 @@ def doubts_of(session: TraciSession, waiting_by_minute: Sequence[WaitingCount]) 
             arrival_and_seconds = (arrival, arrival - depart) if arrival else ("", "")
             rows.append((name, depart, *arrival_and_seconds, free(fleet.plans[number])))
     trips = trust.trips_at(session.clock, session.source.start(), rows)
-    rescues, listed = session.steering.rescue.count.total(), session.settings.lights.listed_lights(mapping)
+    rescue, listed = session.steering.rescue, session.settings.lights.listed_lights(mapping)
+    rescues = rescue.count.total(), knots_of(rescue.rescued, mapping)
     doubts = trust.doubts(trips, rescues, waiting_by_minute, session.source, mapping, listed)
     full, nearly_full = session.steering.yielding.full_passages()
     doubts += trust.crowding_doubts(trips.vehicles, {**session.yielding.crowded, **nearly_full})

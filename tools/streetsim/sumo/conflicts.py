@@ -12,18 +12,16 @@ come in a row, who joins them loses more: these seconds are chosen of two each b
 from collections import defaultdict
 from collections.abc import Iterable, Mapping
 
-from streetsim.model.waiting import Foe, Gap, GivingWay, Pace, TurnKey
+from streetsim.model.waiting import Foe, Gap, GivingWay, TurnKey
 from streetsim.sumo.crossing import EdgePair, Flows
-from streetsim.sumo.net import MINOR, STOPS, ZIPPER, NetConnection, SumoNet, connections_of
+from streetsim.sumo.net import STOPS, NetConnection, SumoNet, connections_of
 from streetsim.sumo.network import Network
 
 FAST = 10.0  # metres a second before the junction, in a roundabout inside it: a stream like that is a fast one
 EQUALS, ALL_STOP = "=", "w"  # SUMO's states of connections: right before left, all-way stop
-# One who gives way too starts from a stand: so many seconds later it is out of the way than one who does not. Right
-# before left, that is one to whose own right somebody comes.
-STANDING = {MINOR: 1.0, EQUALS: 1.0}
-# Seconds more before one who is crossed and gives way too: in which gaps these go changes from run to run.
-FACING = {STOPS: 6.0}
+# Who comes from the right, and to whose own right somebody comes, starts from a stand: so many seconds later it is out
+# of the way.
+STANDING = 1.0
 # To cross a stream, to join a slow and a fast one.
 CROSSING, ENTERING = Gap(7.0, 3.6, 3.5, 0.0, 0.4), Gap(7.2, 2.0, 3.5)
 JOINING = Gap(8.4, 3.0, 5.0, 1.0, 0.4, rolling=5.5)
@@ -38,23 +36,21 @@ STATE_GAPS = {
     },
     STOPS: {CROSSING: Gap(3.0, 0.0, 3.0, 0.0, 0.4), ENTERING: AFTER_STOP, JOINING: AFTER_STOP},
 }
-PACES = {STOPS: Pace(2, 4.15), ALL_STOP: Pace(2, 4.15, 0.7)}
 
 
 def conflicts_of(net: SumoNet, network: Network, flows: Flows) -> list[GivingWay]:
     """Who gives way at junctions right before left, once the network has the turns that plans add (enters): one
     GivingWay for each movement that routes use (flows: vehicles an hour by (edge, next edge)) and that gives way to
-    another used one, or always has to stop. Junctions with a connection whose request is not known are left out."""
+    another used one. Junctions with a connection whose request is not known are left out."""
     turns_at, added = turns_by_movement(network), turns_by_movement(network, True)
     number = {name: at for at, name in enumerate(network.nodes)}
     return [
-        GivingWay(number[junction], tuple(sorted(turns_at[pair])), tuple(found.values()), paces.get(pair))
+        GivingWay(number[junction], tuple(sorted(turns_at[pair])), tuple(found.values()))
         for junction, connections in connections_of(net).items()
         if junction in number and is_equal(connections)
         if not any(one.light or one.request is None for one in connections)
-        for paces in [{(one.source, one.target): PACES[one.state] for one in connections if one.state in PACES}]
         for pair, found in foes_by_movement(connections, net.yields.get(junction, {}), network, added, flows).items()
-        if found or pair in paces
+        if found
     ]
 
 
@@ -78,18 +74,12 @@ def foes_by_movement(
 ) -> dict[EdgePair, dict[TurnKey, Foe]]:  # fmt: skip
     """Who goes before each used movement of a junction, as foes gives them, {(edge, next edge): {(link, lane, next
     link): foe}}, empty where nobody does. connections: of the junction; yields: the requests that each request gives
-    way to. Where all have to stop, these are all who come from other edges; those of zippers go by turns (merges).
-    added: the turns that SUMO has not, by (edge, next edge); flows: as in conflicts_of."""
+    way to; added: the turns that SUMO has not, by (edge, next edge); flows: as in conflicts_of."""
     used = (one for one in connections if flows.get((one.source, one.target)))
     of_request = {one.request: one for one in used if one.request is not None}
     foes_of: dict[EdgePair, dict[TurnKey, Foe]] = {(one.source, one.target): {} for one in of_request.values()}
     for request, yielding in of_request.items():
-        if yielding.state == ALL_STOP:
-            before = [at for at, other in of_request.items() if other.source != yielding.source]
-        else:
-            asked = (foe for foe in sorted(yields.get(request, ())) if foe in of_request)
-            before = [foe for foe in asked if not yielding.state == of_request[foe].state == ZIPPER]
-        for foe in before:
+        for foe in (other for other in sorted(yields.get(request, ())) if other in of_request):
             waits = any(other in of_request for other in yields.get(foe, ()))
             foes_of[yielding.source, yielding.target].update(foes(yielding, of_request[foe], network, added, waits))
     return foes_of
@@ -108,14 +98,11 @@ def foes(
     gap = gap_of(yielding, foe, fast)
     if yielding.target != foe.target:
         gap = gap.across(sum(len(network.links[link].lanes) for link in links))
-        if foe.state in (yielding.state, MINOR):
-            gap = gap.longer(FACING.get(yielding.state, 0.0))
-    if yielding.state == foe.state and (waits or foe.state != EQUALS):
-        gap = gap.later(STANDING.get(yielding.state, 0.0))
-    slow = fast and yielding.state not in PACES  # which have a pace of their own
+    if waits:
+        gap = gap.later(STANDING)
     own = [(link, lane, following) for following in network.links_of[foe.target]]
     turns = [*own, *added.get((foe.source, foe.target), ())]
-    return {turn: Foe(*turn, gap, slow, links[0]) for turn in turns}
+    return {turn: Foe(*turn, gap, fast, links[0]) for turn in turns}
 
 
 def joins_fast(yielding: NetConnection, foe: NetConnection, speed: float, in_ring: bool) -> bool:

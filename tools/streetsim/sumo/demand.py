@@ -37,6 +37,9 @@ NOT_DRIVEN = {
     "container": "a container",
     "containerFlow": "a flow of containers",
 }
+SECONDS = at_least_zero(seconds)  # reads a clock
+MOST_READ = 1 << 16  # texts of routes whose edges are kept while files are read
+NO_STOPS = FoundStops()
 ROUTED_FIRST = "has no route: streetsim-import --trips FILE finds one for each, or streetsim-route"
 
 
@@ -74,6 +77,8 @@ class Demand:
         # (vehicle, file and element): routes may be told after the vehicles.
         self.later: list[tuple[DemandVehicle, str]] = []
         self.unsorted: list[str] = []  # vehicles and flows behind later ones in a file of routes
+        self.known_edges = {name: name for name in (*net.edges, *net.dropped)}
+        self.read_texts: dict[str, tuple[str, ...]] = {}  # edges by the text of a route
         self.readers = {
             "route": self.read_route, "routeDistribution": self.read_mix, "vehicle": self.read_vehicle,
             "flow": self.read_flow, "vType": types.read_element, "vTypeDistribution": types.read_element,
@@ -149,12 +154,18 @@ class Demand:
         """The edges of a route (its element), once, and again as often as its repeat says, limits.PLAN times at most,
         as no vehicle drives so many. Fault, of the element owner, where it has no edges, or one that the network does
         not have; edges not for the classes pass."""
-        names = tuple(attribute(path, route, "edges").split())
-        if not names:
-            raise Fault(f"{element_told(path, owner)}: a route without edges")
-        if unknown := [name for name in names if name not in self.net.edges and name not in self.net.dropped]:
-            raise Fault(f"{element_told(path, owner)}: the network has no edge {unknown[0]!r}")
-        return names * (1 + min(limits.PLAN, optional(path, route, "repeat", at_least_zero(int), 0)))
+        text = attribute(path, route, "edges")
+        if (edges := self.read_texts.get(text)) is None:
+            if not (names := text.split()):
+                raise Fault(f"{element_told(path, owner)}: a route without edges")
+            if unknown := [name for name in names if name not in self.known_edges]:
+                raise Fault(f"{element_told(path, owner)}: the network has no edge {unknown[0]!r}")
+            if len(self.read_texts) == MOST_READ:
+                self.read_texts.clear()
+            edges = self.read_texts[text] = tuple([self.known_edges[name] for name in names])  # which share their names
+        if route.get("repeat") is None:
+            return edges
+        return edges * (1 + min(limits.PLAN, attribute(path, route, "repeat", at_least_zero(int))))
 
     def add_vehicles(self, path: FilePath, element: Element, departures: Sequence[tuple[str, float]]) -> None:
         """Adds an element's vehicles, one for each (name, departure in seconds), and a distribution in it. Unrouted
@@ -183,12 +194,13 @@ class Demand:
         route, not in one that it names; of a flow these are told for a departure at its begin, and are moved. edges: ()
         for completed_vehicles; route: its route's name. Fault where its type is empty, or by stops_in."""
         name, depart = departure
-        begin = optional(path, element, "begin", at_least_zero(seconds), 0.0) if element.tag == "flow" else depart
+        begin = optional(path, element, "begin", SECONDS, 0.0) if element.tag == "flow" else depart
         kind, inner = optional(path, element, "type", filled, DEFAULT), element.find("route")
         own = stops_in(path, inner, self.net) if inner is not None and element.get("route") is None else ()
-        stops = tuple(one.later(depart - begin) for one in (*own, *stops_in(path, element, self.net)))
+        if own := (*own, *stops_in(path, element, self.net)):
+            own = tuple([one.later(depart - begin) for one in own])
         line, more = element.get("line", ""), further_attributes(element)
-        return DemandVehicle(name, depart, edges, kind, route, stops, line, more)
+        return DemandVehicle(name, depart, edges, kind, route, own, line, more)
 
     def inner_route(self, path: FilePath, element: Element) -> tuple[Element | None, Element | None]:
         """(route, distribution) that stand in an element, each None where it has no such element inside, or names a
@@ -215,9 +227,12 @@ class Demand:
         text = attribute(path, element, "depart")
         if text in NO_TIMES:
             self.report.skipped[f"depart={text!r} is no time"] += 1
+            return
+        depart, name = attribute(path, element, "depart", SECONDS), attribute(path, element, "id", filled)
+        if is_plain(element):
+            self.vehicles.append(DemandVehicle(name, depart, self.route_edges(path, element, element[0]), DEFAULT))
         else:
-            depart = attribute(path, element, "depart", at_least_zero(seconds))
-            self.add_vehicles(path, element, [(attribute(path, element, "id", filled), depart)])
+            self.add_vehicles(path, element, [(name, depart)])
 
     def read_flow(self, path: FilePath, element: Element) -> None:
         """Adds the vehicles of a flow, called NAME.NUMBER from 0 on, at the seconds of flows.departs."""
@@ -251,6 +266,14 @@ class Demand:
         return sorted(before, key=lambda vehicle: vehicle.depart)
 
 
+def is_plain(element: Element) -> bool:
+    """Whether a <vehicle> tells its name, its departure and the edges of a route alone, as most do."""
+    if [*element.attrib] != ["id", "depart"] or len(element) != 1:
+        return False
+    (inner,) = element
+    return inner.tag == "route" and [*inner.attrib] == ["edges"] and not len(inner)
+
+
 def further_attributes(element: Element) -> tuple[tuple[str, str], ...]:
     """The attributes, (name, value), of a vehicle, trip or flow that are neither in READ nor in ENDS."""
     if element.attrib.keys() <= READ_OR_END:
@@ -270,21 +293,18 @@ def enters(
     driven: list[DemandVehicle] = []
     used: Counter[int] = Counter()
     for vehicle in vehicles:
-        route_stops = stops.on_route(vehicle.name, vehicle.edges, vehicle.stops)
-        vclass = types.class_kept(vehicle.type, network.options.classes)
-        plan, why = plan_or_reason(vehicle, net, network, route_stops.first_lanes(), vclass)
+        route_stops = stops.on_route(vehicle.name, vehicle.edges, vehicle.stops) if vehicle.stops else NO_STOPS
+        vclass, stop_lanes = types.class_kept(vehicle.type, network.options.classes), route_stops.first_lanes()
+        plan, why = plan_or_reason(vehicle, net, network, stop_lanes, vclass)
         if plan is None:
             report.skipped[why] += 1
             continue
         stops.add_visits((len(driven), vehicle.name, vehicle.type), plan, route_stops, network)
-        command: Command = {
-            "cmd": "enter",
-            "plan": list(plan),
-            "lane": entry_lane(plan, network, used, route_stops),
-            "depart": max(0, math.ceil(vehicle.depart)),
-        }
-        size = sizes.next_size(vehicle.type) if network.options.sizes else 1
-        commands.append({**command, "size": size} if size > 1 else command)
+        lane, depart = entry_lane(plan, network, used, stop_lanes.get(0)), max(0, math.ceil(vehicle.depart))
+        command: Command = {"cmd": "enter", "plan": list(plan), "lane": lane, "depart": depart}
+        if network.options.sizes and (size := sizes.next_size(vehicle.type)) > 1:
+            command["size"] = size
+        commands.append(command)
         driven.append(vehicle)
     sizes.report_sizes(report)
     stops.report_stops()
@@ -292,14 +312,16 @@ def enters(
     return commands, driven
 
 
-def entry_lane(plan: Sequence[int], network: Network, used: Counter[int], route_stops: FoundStops) -> int:
-    """The lane (0 or 1 of its first link) where a vehicle enters: that of its stop on this link, else one of those that
-    lead on, one after the other. used: how many entered each link so, to which it is added."""
-    if 0 in (stops := route_stops.first_lanes()):
-        return network.place_of[stops[0]][1]
+def entry_lane(plan: Sequence[int], network: Network, used: Counter[int], stop_lane: LaneKey | None) -> int:
+    """The lane (0 or 1 of its first link) where a vehicle enters: that of its stop on this link (stop_lane, None: it
+    has none), else one of those that lead on, one after the other. used: how many entered each link so, to which it is
+    added."""
+    if stop_lane is not None:
+        return network.place_of[stop_lane][1]
     lanes = network.serves(plan[0], plan[1]) if len(plan) > 1 else range(len(network.links[plan[0]].lanes))
-    used[plan[0]] += 1
-    return lanes[(used[plan[0]] - 1) % len(lanes)]
+    before = used[plan[0]]
+    used[plan[0]] = before + 1
+    return lanes[before % len(lanes)]
 
 
 def kinds_of(driven: Sequence[DemandVehicle], types: Types) -> Json:

@@ -11,7 +11,7 @@ from streetsim.model.fullness import (
 )  # fmt: skip
 from streetsim.sumo.crossing import Crossing, CrossingMovement, EdgePair, Flows, hourly_flows
 from streetsim.sumo.demand import DemandVehicle
-from streetsim.sumo.lane_capacity import capacity, crossings_of
+from streetsim.sumo.lane_capacity import capacity, crossings_of, least_capacity
 from streetsim.sumo.merges import Merge
 from streetsim.sumo.net import SumoNet
 
@@ -102,7 +102,9 @@ def full_at_light(
         lanes[movement.lane].append(movement)
     for (edge, index), sharing in lanes.items():
         wish = sum(movement.flow for movement in sharing)
-        demand = filled(wish, capacity(sharing, wish)) if wish >= LEAST_FLOW else 0.0
+        if wish < LEAST_FLOW or filled(wish, least_capacity(sharing, wish)) < FULL:
+            continue
+        demand = filled(wish, capacity(sharing, wish))
         waiting = [movement for movement in sharing if movement.waits and movement.flow]
         if demand >= (FULL if waiting else FULL_IN_TURN):
             source, target = max(waiting or sharing, key=lambda movement: movement.flow).pair

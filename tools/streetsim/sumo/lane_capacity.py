@@ -3,7 +3,7 @@ the lanes that vehicles choose. It decides no green: who gives way goes by who c
 
 The seconds of a cycle are bits of a number, second 0 the lowest.
 """
-from collections.abc import Iterable, Sequence
+from collections.abc import Callable, Iterable, Sequence
 from functools import lru_cache, reduce
 from itertools import groupby
 from operator import or_
@@ -44,23 +44,39 @@ def crossing_of(junction: str, connections: Sequence[NetConnection], net: SumoNe
     return Crossing(ours, states, net.yields[junction])
 
 
-def capacity(sharing: Sequence[CrossingMovement], wish: float) -> float:
+def capacity(
+    sharing: Sequence[CrossingMovement], wish: float, alone: Callable[[CrossingMovement], float] | None = None
+) -> float:
     """Vehicles an hour that a lane lets pass, by its movements, of wish that want to (above 0), LEAST_PASSING at least:
     as on a shared lane without a light (Highway Capacity Manual), where each needs its part of what would pass if all
-    went its way; and no more than pass if nobody waited for gaps (by_greens)."""
-    cycles = sum(one.flow / max(LEAST_PASSING * one.cycle / 3600, passing_alone(one)) for one in sharing)
+    went its way (alone: vehicles in a cycle, else passing_alone); and no more than pass if nobody waited for gaps
+    (by_greens)."""
+    alone = alone or passing_alone
+    cycles = sum(one.flow / max(LEAST_PASSING * one.cycle / 3600, alone(one)) for one in sharing)
     by_gaps = wish / cycles * 3600 / sharing[0].cycle
     return max(LEAST_PASSING, min(by_gaps, by_greens(sharing, wish)))
+
+
+def least_capacity(sharing: Sequence[CrossingMovement], wish: float) -> float:
+    """No more than capacity gives, and found sooner: as if nobody found a gap."""
+    return capacity(sharing, wish, passing_without_gaps)
+
+
+def passing_without_gaps(movement: CrossingMovement) -> float:
+    """What passing_alone gives where no gap is found."""
+    if not movement.waits:
+        return passing_in_green(movement.green.bit_count(), movement.headway)
+    return passing_in_green(movement.sure.bit_count(), movement.headway) + SNEAKERS * len(movement.runs)
 
 
 def passing_alone(movement: CrossingMovement) -> float:
     """Vehicles that pass in a cycle from a lane on which all go by a movement. In a permissive green those find gaps,
     and one goes at its end, whatever comes; while the queues of those leave that go first nobody does."""
+    passing = passing_without_gaps(movement)
     if not movement.waits:
-        return passing_in_green(movement.green.bit_count(), movement.headway)
+        return passing
     queues = reduce(or_, map(leaving_bits, movement.foes))
     permissive = movement.green & ~movement.sure & ~queues
-    passing = passing_in_green(movement.sure.bit_count(), movement.headway) + SNEAKERS * len(movement.runs)
     for seconds, hourly in seconds_by_flow(movement, permissive):
         passing += seconds * min(1 / movement.headway, gap_capacity(min(hourly, MOST_AGAINST)) / 3600)
     return passing

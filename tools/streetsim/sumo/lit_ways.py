@@ -2,6 +2,7 @@
 second by second."""
 from collections import defaultdict
 from collections.abc import Collection, Iterable, Iterator, Mapping, Sequence
+from functools import lru_cache
 
 from streetsim.model.waiting import ALWAYS_STOP, NodeWays, TurnKey
 from streetsim.sumo.conflicts import is_equal
@@ -128,6 +129,7 @@ def pairs_that_meet(
                 yield connection, foe
 
 
+@lru_cache(1 << 12)
 def goes_first(own: str, other: str) -> bool:
     """Whether one goes first in each state in which another one has green too, one at least; arguments: their letters
     by state."""

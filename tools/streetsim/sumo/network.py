@@ -90,7 +90,7 @@ class Network:
         for link, users in zip(self.links, self.users, strict=True):
             pacing.set_cells(link, users)
             link.cells = max(1, round(link.cells / factor_of(options.speeds, link.speed)))
-        self.buffers = buffer_sizes(self.links, len(self.nodes), options)
+        self.buffers = buffer_sizes(self.links, self.residences, options)
         self.joined: set[tuple[int, int]] = set()
         self.yields: list[GivingWay] = []
         self.last_depart = options.begin  # departure
@@ -204,17 +204,16 @@ class Network:
         connection, or one has no link for its class. edges: kept ones, one at least; stops: the lane that it must go
         over, by the edge's position; vclass: its class, of the options' ones, FREE or empty: any."""
         choice = self.choice
-        ways = choice.open_links(edges, vclass)
-        for at, key in stops.items():
-            (ways[at],) = choice.open_links([edges[at]], vclass, self.place_of[key][0])
-        steps = choice.steps_of(ways)
-        if steps is None or not all([some.links for some in ways]):
+        found = choice.ways_of(edges, vclass, {at: self.place_of[key][0] for at, key in stops.items()})
+        if found is None:
             return None
+        ways, steps = found
         plan = choice.cheapest(ways, steps)
-        choice.use[plan[-1]] += 1
+        use, lanes_to = choice.use, choice.lanes_to
+        use[plan[-1]] += 1
         for pair, step in zip(pairwise(plan), steps):
-            choice.use[pair[0]] += step.vehicles
-            if pair not in choice.lanes_to:
+            use[pair[0]] += step.vehicles
+            if step.changes and pair not in lanes_to:
                 self.connect_links(*pair)
         return plan
 
@@ -272,12 +271,20 @@ def names_of(net: SumoNet, edges: Iterable[NetEdge], nodes: Iterable[str]) -> Js
     return {kind: names for kind, names in (("edges", streets), ("junctions", junctions)) if names}
 
 
-def buffer_sizes(links: Sequence[Link], nodes: int, options: Options) -> list[int]:
-    """For each of so many nodes how many vehicles its buffer holds, limits.BUFFER at most: those of the options, and
-    for each lane that leads there a share of the cells that links behind the node have fewer than their length."""
+def buffer_sizes(links: Sequence[Link], residences: Sequence[int], options: Options) -> list[int]:
+    """For each node how many vehicles its buffer holds, limits.BUFFER at most: those of the options, or one more than
+    its seconds where one street goes on as another one and nobody stands between them; and for each lane that leads
+    there a share of the cells that links behind the node have fewer than their length. residences: seconds by node."""
     lanes, lacking = Counter[int](), Counter[int]()
+    edges_into, edges_out_of = defaultdict[int, set[str]](set), defaultdict[int, set[str]](set)
     for link in links:
         lanes[link.end] += len(link.lanes)
         lacking[link.begin] += max(0, limits.cells_of_length(link.metres) - link.cells) * len(link.lanes)
-    more = (round(lacking[node] / lanes[node]) if lanes[node] else 0 for node in range(nodes))
-    return [min(limits.BUFFER, options.buffer + extra) for extra in more]
+        edges_into[link.end].add(link.edge)
+        edges_out_of[link.begin].add(link.edge)
+    sizes = []
+    for node, seconds in enumerate(residences):
+        goes_on = len(edges_into[node]) == len(edges_out_of[node]) == 1
+        usual = min(options.buffer, seconds + 1) if goes_on else options.buffer
+        sizes.append(min(limits.BUFFER, usual + (round(lacking[node] / lanes[node]) if lanes[node] else 0)))
+    return sizes

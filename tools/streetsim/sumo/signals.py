@@ -2,7 +2,9 @@
 from collections import defaultdict
 from collections.abc import Iterable, Iterator, Mapping, Sequence
 from dataclasses import dataclass
-from itertools import chain, cycle as cycle_of, groupby, islice, product, takewhile
+from functools import reduce
+from itertools import chain, compress, cycle as cycle_of, groupby, islice, product, takewhile
+from operator import or_
 
 from streetsim.base import limits
 from streetsim.base.files import Fault
@@ -11,7 +13,7 @@ from streetsim.model.mapping import Map, MapTurn
 from streetsim.model.runs import Command
 from streetsim.model.timing import spans_of, states_of
 from streetsim.model.waiting import NodeWays, TurnKey, ways_at
-from streetsim.sumo.crossing import ANY_GREEN, GREEN, OPEN
+from streetsim.sumo.crossing import GREEN, OPEN, times_of
 from streetsim.sumo.driver_words import Pairs, cut_at, measured_of, with_cut
 from streetsim.sumo.greens import TWO_PARTS, hidden_middle, hidden_start
 from streetsim.sumo.net import NEMA, STATIC, LightProgram, NetConnection, SumoNet
@@ -253,11 +255,11 @@ def shown_alone(
                 foes[index] |= indexes[foe]
     signs = ["".join(each) for each in zip(*states)]
     for index in {*index_of.values()}:
-        lit = [[sign in ANY_GREEN for sign in signs[other]] for other in foes[index] if other is not None]
-        is_always_met = len(lit) < len(foes[index])
-        met = [is_always_met or any(each) for each in zip(*lit)] if lit else [is_always_met] * len(states)
-        runs = spans_of(signs[index], OPEN)
-        yield index, {start: AS_MAIN for start, length in runs if not any((met * 2)[start : start + length])}
+        lit = [times_of(signs[other]).green for other in foes[index] if other is not None]
+        met = reduce(or_, lit, 0) if len(lit) == len(foes[index]) else (1 << len(states)) - 1  # seconds, as bits
+        twice = met | met << len(states)
+        runs = times_of(signs[index]).runs.items()
+        yield index, {start: AS_MAIN for start, length in runs if not twice >> start & (1 << length) - 1}
 
 
 def shown_by_share(
@@ -277,9 +279,9 @@ def green_seconds(
 ) -> list[Green]:
     """The green turns in each second of the cycle; turns that the light does not control are always green. grain,
     middle: as in shown_green."""
-    greens: list[set[TurnKey]] = [set() for _ in states]
+    shown_by_turn: list[Sequence[bool]] = []
     signs = ["".join(each) for each in zip(*states, strict=False)]  # by index
-    for link, lane, following, turn in lit.turns:
+    for *_, turn in lit.turns:
         is_shown = [True] * len(states)
         if turn.light == lit.light:
             own_seconds = seconds.get(turn.index, {})
@@ -287,10 +289,11 @@ def green_seconds(
             is_shown = shown_green(letters, own_seconds, turn, grain, middle)
             if cut := cut_at(lit.cut, lit.node):
                 is_shown = with_cut(is_shown, spans_of(letters, GREEN + OPEN), letters, cut)
-        for green, on in zip(greens, is_shown, strict=True):
-            if on:
-                green.add((link, lane, following))
-    return [frozenset(green) for green in greens]
+        shown_by_turn.append(is_shown)
+    keys = [(link, lane, following) for link, lane, following, _ in lit.turns]
+    by_second = list(zip(*shown_by_turn, strict=True))
+    greens = {lit_turns: frozenset(compress(keys, lit_turns)) for lit_turns in {*by_second}}
+    return [greens[lit_turns] for lit_turns in by_second]
 
 
 def with_main_greens(states: str, seconds: Mapping[int, int]) -> str:

@@ -1,5 +1,4 @@
 """streetsim-sumo: SUMO's command line over streetsim: a run to its end, or TraCI's protocol for clients."""
-import argparse
 import os
 import sys
 import time
@@ -9,12 +8,12 @@ from math import inf
 import streetsim.traci as traci
 from streetsim.base.client import ProgramEnded, Refused
 from streetsim.base.files import Fault, quoteattr, seconds, whole_file
-from streetsim.base.words import Parser
+from streetsim.cli.sumo_words import parser
 from streetsim.model import trust
 from streetsim.simulation.confining import confined
 from streetsim.simulation.errors import FatalTraCIError
 from streetsim.simulation.opening import is_on
-from streetsim.simulation.options import IMPORTED, NO_FILE, SAVED, read_options
+from streetsim.simulation.options import NO_FILE, SAVED, read_options
 from streetsim.simulation.session import TraciSession
 from streetsim.simulation.statistics import WaitingCount, doubts_of, statistics_of
 from streetsim.sumo.configuration import FILES, WRITTEN
@@ -24,73 +23,11 @@ from streetsim.traci.server import HOST, Server, listen, turn_away
 PORTS, CLIENTS, WRITES, CHECK = "remote-port", "num-clients", "writes", "--check"
 MINUTE, MOST_CLIENTS = 60, 64
 ALL_LEFT = "All vehicles have left the simulation."
-RUN_OPTIONS = ("departures", "lights", "merge", "close", "stops", "priority", "seen")
-# SUMO's words and those of the tools that are done, as --help, the manual page and the completion tell them.
-OPTION_HELP = (
-    ("-c, --configuration-file FILE", "a configuration, whose options count behind those of the command line"),
-    ("-n, --net-file FILE", "the network"),
-    ("-r, --route-files FILES", "vehicles, flows and trips, with commas between"),
-    ("-a, --additional-files FILES", "additional files, with commas between"),
-    ("-b, --begin TIME", "the time at which the run begins"),
-    ("-e, --end TIME", "the time at which it ends; without effect under a client, as in SUMO"),
-    ("--seed NUMBER", "seed of all random draws; equal seeds give equal runs"),
-    ("--random", "draws the seed, and tells it"),
-    ("--remote-port PORT", "serves TraCI's protocol at a port of the loopback address"),
-    ("--num-clients NUMBER", "waits for so many clients, which tell their places by setOrder (1)"),
-    ("--writes FOLDER", "files that clients name are written in this folder alone"),
-    ("--tripinfo-output FILE", "a row for each vehicle that arrived"),
-    ("--summary-output FILE", "a row for each second"),
-    ("--queue-output FILE", "the queues of each second"),
-    ("--fcd-output FILE", "each vehicle in each second"),
-    ("--vehroute-output FILE", "the way of each vehicle; with --vehroute-output.exit-times when it left edges"),
-    ("--statistic-output FILE", "the counts and means of the whole run"),
-    ("--edgedata-output FILE", "the sums of each edge over the whole run"),
-    ("--stop-output FILE", "a row for each stop that a vehicle has left"),
-    ("--lanechange-output FILE", "each change of lanes"),
-    ("--output-prefix TEXT", "stands before the name of each file that is written"),
-    ("-t, --duration-log.statistics", "tells the means of all trips at the end"),
-    ("-v, --verbose", "tells begin and end"),
-    ("-W, --no-warnings", "tells no warnings"),
-    ("-l, --log FILE", "the file for warnings"),
-    ("--ignore-route-errors", "leaves vehicles out whose route cannot be driven"),
-    ("--rescue SECONDS", "takes out a vehicle that stood this long, in place of --time-to-teleport"),
-    ("--rounds NUMBER", "runs made before the final run, by which vehicles give way right before left (2)"),
-    *((f"--{name} ..", "as in streetsim-import") for name in sorted(IMPORTED - {"seed", "begin"})),
-    *((f"--{name} ..", "as in streetsim-run") for name in RUN_OPTIONS),
-    ("-C, --save-configuration FILE", "writes the words as a configuration, and makes no run"),
-    ("--check SCRIPT.py", "reads a script for TraCI, and says which of its calls are here"),
-)
-
-
-def parser() -> argparse.ArgumentParser:
-    """The parser that tells the words; they are read by read_options, as SUMO reads them."""
-    options_parser = Parser(
-        prog="streetsim-sumo",
-        formatter_class=argparse.RawDescriptionHelpFormatter,
-        examples=(
-            "streetsim-sumo -c day.sumocfg --tripinfo-output trips.xml",
-            "streetsim-sumo -n town.net.xml -r town.rou.xml --end 3600 --remote-port 8813",
-        ),
-        description="Takes SUMO's command line: runs to the end, or serves TraCI's protocol to scripts in any language",
-        epilog="SUMO's other words have no effect, which a line tells, or are refused by name (tools/PYTHON.md).\n"
-        "SUMO_BINARY=streetsim-sumo has scripts that ask sumolib.checkBinary('sumo') start it.",
-    )
-    for names, help_text in OPTION_HELP:
-        flags = [word for word in names.replace(",", "").split() if word.startswith("-")]
-        value = names.split()[-1]
-        if value in flags:
-            options_parser.add_argument(*flags, help=help_text, action="store_true")
-        else:
-            options_parser.add_argument(*flags, help=help_text, metavar=value)
-    return options_parser
 
 
 def main(arguments: list[str]) -> int:
     """Runs streetsim-sumo; gives 0, or 1 where a client went away without closing or a script has calls that are not
     here. Fault for wrong words, files that cannot be read, and a port that is taken."""
-    if not arguments or {"-h", "--help", "-?"} & set(arguments):
-        parser().print_help()
-        return 0
     if {"-V", "--version"} & set(arguments):
         parser().parse_args(["--version"])
     if arguments[0].partition("=")[0] == CHECK:

@@ -4,16 +4,15 @@ use crate::memory_streams::{FailingReader, FailingWriter};
 use std::alloc::Global;
 use std::thread::Threads;
 use street_base::Command;
-use street_engine::{Engine, StartedCrew, Unwatched};
+use street_engine::{Engine, StartedCrew, Unrecorded, Unwatched};
 use street_line::{
-    Counted, EngineSession, FaultKind, RunFault, Served, Service, Tally, run_engine,
-    run_lines_within,
+    Counted, FaultKind, RunFault, Served, Service, Session, Tally, run_lines_within, run_session,
 };
 
 /// An engine with a place for so many commands, and how many it was asked to serve.
 #[derive(Drop)]
 struct Watched<'a, R: Threads + Sync> {
-    engine: EngineSession<StartedCrew<'a, R>>,
+    engine: Session<StartedCrew<'a, R>, Unrecorded>,
     places: u128,
     commands: u128,
 }
@@ -69,9 +68,10 @@ pub(super) fn run<R: Threads + Sync>(
     let mut reader = Counted::new(reader);
     let mut writer = Counted::new(writer);
     let mut service = Watched {
-        engine: EngineSession::new(
+        engine: Session::new(
             StartedCrew::new(rt),
             Engine::new(alloc, 1, Unwatched::new()),
+            Unrecorded,
         ),
         places,
         commands: 0,
@@ -102,10 +102,11 @@ pub(super) fn run_whole<R: Threads + Sync>(
 ) -> (Option<FaultKind>, Tally, Vec<u8>) {
     let mut reader = Counted::new(text);
     let mut writer = Counted::new(writer);
-    let mut engine = EngineSession::new(
+    let mut engine = Session::new(
         StartedCrew::new(rt),
         Engine::new(alloc, 1, Unwatched::new()),
+        Unrecorded,
     );
-    let (kind, tally) = outcome(run_engine(alloc, &mut engine, &mut reader, &mut writer));
+    let (kind, tally) = outcome(run_session(alloc, &mut engine, &mut reader, &mut writer));
     (kind, tally, writer.into_inner().taken)
 }

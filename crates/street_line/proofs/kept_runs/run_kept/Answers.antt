@@ -55,7 +55,7 @@ returns-then-count-eq0-clause-exact g c =
     let read = consumes_end _ _ _ before.0 c.in-Ok.count c.read_behind.new.buffer c.if-count-eq0.true before.1 c.in-Ok.ensures.bytes.0 in
     IfErr-weaker c.serve_and_keep_last.result _ _
     (λ fault stops. record {
-      seen = before.0;
+      earlier = before.0;
       got = [];
       last = if_any (cut before.0).1;
       begun = [];
@@ -74,7 +74,7 @@ returns-in-Err-serve_and_keep_more-clause-exact g c =
     let before = c.loop.invariant in
     let got : List ℕ = take c.in-Ok.count c.read_behind.new.buffer in
     record {
-      seen = before.0;
+      earlier = before.0;
       got = got;
       last = (cut ((cut before.0).1 ++ got)).0;
       begun = if_any (cut ((cut before.0).1 ++ got)).1;

@@ -8,11 +8,11 @@ use Rattle.street_line.proofs.redo.redo_log.Given as goal
 
 abbrev pub invariant-loop : goal.invariant-loop
 invariant-loop g l =
-    (seen : List ℕ) × Consumes (g.R.Read.remaining l.fn.reader.stream) (g.R.Read.remaining l.reader.stream) seen
-    × Redoes g.S.Service.serves l.fn.service (cut seen).0 l.service
-    × IsOpen longest_line l.text (cut seen).1
-    × (l.redo.bytes + length (cut seen).1 ≡ length seen)
-    × (l.total ≡ length seen)
+    (earlier : List ℕ) × Consumes (g.R.Read.remaining l.fn.reader.stream) (g.R.Read.remaining l.reader.stream) earlier
+    × Redoes g.S.Service.serves l.fn.service (cut earlier).0 l.service
+    × IsOpen longest_line l.text (cut earlier).1
+    × (l.redo.bytes + length (cut earlier).1 ≡ length earlier)
+    × (l.total ≡ length earlier)
     × (l.total ≤ l.counter * 4096)
     × (l.reader.calls ≡ l.counter)
-    × (l.redo.lines ≡ length (cut seen).0)
+    × (l.redo.lines ≡ length (cut earlier).0)

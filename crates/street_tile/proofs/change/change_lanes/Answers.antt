@@ -1,11 +1,15 @@
-use Rattle.std.proofs.Common.{◌≡◌, ℕ, suc, ◌+◌, ◌<◌, ◌≤◌, ◌∙◌, length, refl, sym, ap, subst, arith}
+use Rattle.std.proofs.Common.{◌≡◌, ℕ, suc, ◌+◌, ◌-◌, ◌<◌, ◌≤◌, ◌∙◌, length, get_or, refl, sym, ap, subst, arith, inl, inr}
+use Rattle.std.proofs.lemmas.Bool.{cases_eq}
 use Rattle.street_base.specs.declared.names.Place.{Place}
 use Rattle.street_base.specs.Prelude.{link_at, Traffic}
 use Rattle.street_lanes.specs.Prelude.{Same, IsOn, LanesStand, place_at}
 use Rattle.street_lanes.specs.Lanes.{IsOf}
 use Rattle.street_tile.specs.Prelude.{IsRoads, ArePairs, BeginsLink}
 use Rattle.street_tile.proofs.SameLanes.{same-then, same-long, even-of, of-same, there-at}
-use Rattle.street_tile.proofs.TileChanges.{ChangedTo, begins-next, changed-start, changed-kept, changed-next, changed-over, changed-all}
+use Rattle.street_tile.proofs.TileChanges.{ChangedTo, begins-next, changed-start, changed-kept, changed-next, changed-past, changed-over, changed-all}
+use Rattle.street_tile.proofs.change.change_lanes.Lts.View as View
+use Rattle.street_tile.proofs.change.change_lanes.Tie as Tie
+use Rattle.street_tile.proofs.change.change_lanes.Reads as Reads
 use Rattle.street_tile.proofs.change.change_lanes.Goals as goal
 use Rattle.street_tile.proofs.change.change_lanes.Goals.{then-lanes_of-eq2, else-lanes_of-eq2, Joined-lanes_of-eq2}
 
@@ -74,6 +78,22 @@ Kept c = record {
       → m.clock ≡ c.args.clock → ChangedTo c.args.net.now m on roads c.args.own.now of pairs even stand c.if-lanes_of-eq2.after c.if-lanes_of-eq2.own;
 }
 
+-- a lane that begins no pair, nor does any behind it before the one that the table tells of it
+none-before : (c : Joined-lanes_of-eq2) → ((place_at c.args.own.now c.loop-n.n).lane ≡ 0 → (link_at c.args.net.now (place_at c.args.own.now c.loop-n.n).link).lanes ≡ 2 → ⊥)
+    → (i : ℕ) → c.loop-n.n ≤ i → i < get_or c.args.pairs.now c.loop-n.n 0 → (place_at c.args.own.now i).lane ≡ 0 → (link_at c.args.net.now (place_at c.args.own.now i).link).lanes ≡ 2 → ⊥
+none-before c no_pair i above below first two =
+    let long = ap length c.loop-n.invariant.same.places in
+    let inside : c.loop-n.n < length c.args.own.now.places = omega (arith, long) in
+    let within = c.requires.next.within c.loop-n.n inside in
+    let next = c.requires.pairs.next i (omega (arith, within, below)) first two in
+    elim (cases_eq i c.loop-n.n) as (λ _. ⊥) [
+      | inl e ↦ no_pair (subst (λ (k : ℕ). (place_at c.args.own.now k).lane ≡ 0) e first) (subst (λ (k : ℕ). (link_at c.args.net.now (place_at c.args.own.now k).link).lanes ≡ 2) e two)
+      | inr ne ↦ (
+          let one : (place_at c.args.own.now (suc i)).lane ≡ 1 = ap (λ (p : Place). p.lane) next.1 in
+          let zero : (place_at c.args.own.now (suc i)).lane ≡ 0 = c.requires.next.none c.loop-n.n i inside (omega arith) below next.0 in
+          absurd (omega arith))
+    ]
+
 link-done : (c : Joined-lanes_of-eq2) → Kept c
 link-done c =
     let places = c.loop-n.invariant.same.places in
@@ -111,14 +131,18 @@ link-done c =
           let yes : c.lanes_of.result ≡ 2 = c.lanes_of.ensures ∙ subst (λ (p : Place). (link_at net p.link).lanes ≡ 2) (sym (c.at.ensures ∙ place)) two in
           let no = w.if-lanes_of-eq2.false in
           absurd (omega (arith, yes, no)) in
+          let inside : c.loop-n.n < length old.places = omega (arith, long) in
+          let later = c.requires.next.later c.loop-n.n inside in
+          let none = none-before c no_pair in
+          let back : get_or c.args.pairs.now c.loop-n.n 0 - 1 + 1 ≡ get_or c.args.pairs.now c.loop-n.n 0 = omega (arith, later) in
           rw (w.own-is, w.after-is) (record {
-            more = omega arith;
-            within = omega (arith, long);
-            begins = begins-next net c.requires.roads old c.requires.of c.requires.pairs c.loop-n.n no_pair;
+            more = later;
+            within = c.requires.next.within c.loop-n.n inside;
+            begins = subst (BeginsLink old) back (begins-next net c.requires.roads old c.requires.of c.requires.pairs (get_or c.args.pairs.now c.loop-n.n 0 - 1) (none (get_or c.args.pairs.now c.loop-n.n 0 - 1) (omega (arith, later)) (omega (arith, later))));
             same = c.loop-n.invariant.same;
             room = c.loop-n.invariant.room;
             done = λ m on roads of pairs even stand in_time.
-                changed-kept net m on roads old of pairs even stand c.loop-n.n c.loop-n.own (omega (arith, long)) no_pair (c.loop-n.invariant.done m on roads of pairs even stand in_time);
+                changed-past net m on roads old of pairs even stand c.loop-n.n (get_or c.args.pairs.now c.loop-n.n 0) c.loop-n.own (omega (arith, later)) (c.requires.next.within c.loop-n.n inside) none (c.loop-n.invariant.done m on roads of pairs even stand in_time);
           }))
     ]
 
@@ -137,7 +161,7 @@ next_link-n-requires-in-loop-n-clause-pairs c = let done = link-done c in (c.arg
 
 pub loop-n-preserved : goal.loop-n-preserved
 loop-n-preserved c =
-    let done = link-done c.before in
+    let done = link-done (View.up-Joined-lanes_of-eq2 Tie.the-claims Reads.Pre Reads.Post goal.the-invariant-loop-n goal.the-decreases-loop-n Tie.handed_clauses c.before.before) in
     let next = c.next_link-n-in-loop-n.ensures in
     let even = even-of c.args.net.now c.args.own.now c.requires.of in
     let long = same-long c.args.own.now c.if-lanes_of-eq2.own done.same in

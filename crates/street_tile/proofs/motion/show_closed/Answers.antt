@@ -1,13 +1,25 @@
-use Rattle.std.proofs.Common.{◌≡◌, ◌+◌, ◌*◌, ◌<◌, length, not, arith, refl, sym, ap, subst, ◌∙◌}
-use Rattle.std.proofs.lemmas.List.{length-set}
-use Rattle.std.proofs.lemmas.Option.{slice_get_within}
+use Rattle.std.proofs.Common.{◌≡◌, ◌+◌, ◌*◌, ◌<◌, Bool, true, false, List, length, slice_index_or, not, arith, refl, sym, ap, subst, ◌∙◌}
+use Rattle.std.proofs.lemmas.List.{length-set, get_or-replicate}
+use Rattle.std.proofs.lemmas.Option.{slice_get_within, same_Some}
 use Rattle.street_base.specs.declared.names.Place.{Place}
 use Rattle.street_lanes.specs.Prelude.{place_at}
 use Rattle.street_net.specs.Prelude.{slot_of}
-use Rattle.street_tile.proofs.SameLanes.{place-is}
+use Rattle.street_tile.proofs.SameLanes.{even-of, place-is}
 use Rattle.street_tile.proofs.HeldMouths.{slot-inside}
 use Rattle.street_tile.proofs.ShownLanes.{IsUnclosedTo, mouth-written}
 use Rattle.street_tile.proofs.motion.show_closed.Goals as goal
+
+pub returns-then-is_all_open-clause-shown : goal.returns-then-is_all_open-clause-shown
+returns-then-is_all_open-clause-shown c = λ j p at.
+    let own = c.args.own.now in
+    let h = slice_get_within own.places j p at in
+    let even = even-of c.args.net.now own c.requires.of in
+    let same : place_at own j ≡ p = same_Some (place_at own j) p (sym (place-is own j h) ∙ at) in
+    let small = (slot-inside c.args.net.now c.requires.roads own c.requires.of.own j h).1 in
+    let inside : slot_of p < length c.args.mouths.now = subst (λ (q : Place). slot_of q < length c.args.mouths.now) same (omega (arith, small, c.requires.wide)) in
+    ap (λ (ms : List Bool). slice_index_or ms (slot_of p) false) (c.fill.ensures.after (λ y e. e))
+    ∙ get_or-replicate (length c.args.mouths.now) (slot_of p) true false inside
+    ∙ sym (ap not (c.is_all_open.ensures c.if-is_all_open.true j (omega (arith, even, h))))
 
 pub loop-n-init : goal.loop-n-init
 loop-n-init c = record { wide = refl; shown = λ j p at below. absurd (omega arith) }

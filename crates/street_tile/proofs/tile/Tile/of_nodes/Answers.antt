@@ -5,7 +5,7 @@ use Rattle.street_base.specs.declared.names.Place.{Place}
 use Rattle.street_base.specs.Prelude.{loaded, SignalPlan, last_clock}
 use Rattle.street_base.proofs.FaultLemmas.{few_links, good_start}
 use Rattle.street_lanes.specs.Prelude.{Lanes, IsLane, AllLanes, LanesStand, cells_on}
-use Rattle.street_tile.specs.Prelude.{vehicle_in, ShowSignals, AreNumbers, AreBare, AreDue, own_places, sizes_of}
+use Rattle.street_tile.specs.Prelude.{vehicle_in, ShowSignals, AreNextPairs, AreNumbers, AreBare, AreDue, own_places, sizes_of}
 use Rattle.street_node.specs.Prelude.{AtMostOnce}
 use Rattle.street_tile.proofs.OwnLanes.{own-lanes, own-once}
 use Rattle.street_tile.proofs.EmptyTile.{faultless-roads, loaded-lanes, loaded-clock, loaded-signals, nobody-comes}
@@ -104,6 +104,7 @@ invariant_of-result c =
       wide = record {
         nodes = omega arith;
         numbered = subst (λ qs. AreNumbers (length c.as_slice-links.result.now) qs c.in_ok-tables.tables.0.0.items) numbers c.in_ok-tables.ensures.numbers;
+        pairs = subst (λ qs. AreNextPairs qs c.in_ok-next_pairs.next_pairs.items) (c.deref-3.ensures.value ∙ sym c.deref.ensures.value ∙ sym places) c.in_ok-next_pairs.ensures;
         mouths = c.in_ok-tables.ensures.mouths;
         coming = slots ∙ long;
         handed = omega arith;

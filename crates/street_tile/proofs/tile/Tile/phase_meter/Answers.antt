@@ -6,7 +6,7 @@ use Rattle.street_base.specs.declared.net.NetSpec.{NetSpec}
 use Rattle.street_base.specs.Prelude.{no_lane, lane_at}
 use Rattle.street_lanes.specs.Prelude.{Lanes, lane_of, Detectors}
 use Rattle.street_tile.specs.Inside.{seen}
-use Rattle.street_tile.specs.Prelude.{TileView, IsTileOf, AreNumbers, AreBare, AreDue, HaveNoted, detectors_at, noted_by, MeterPhase, ticked}
+use Rattle.street_tile.specs.Prelude.{TileView, IsTileOf, AreNextPairs, AreNumbers, AreBare, AreDue, HaveNoted, detectors_at, noted_by, MeterPhase, ticked}
 use Rattle.street_tile.proofs.SameLanes.{same-none, even-of}
 use Rattle.street_tile.proofs.SameTile.{tile-seen, at-view}
 use Rattle.street_tile.proofs.MetersStand.{detectors-even, noted-sizes, noted-bare, noted-due, lane-noted}
@@ -66,6 +66,7 @@ invariant_of-self c =
       wide = record {
         nodes = inv.wide.nodes;
         numbered = subst (λ (own : Lanes). AreNumbers s.links own.places s.numbers.items) (sym c.pack.ensures) inv.wide.numbered;
+        pairs = subst (λ (own : Lanes). AreNextPairs own.places s.next_pairs.items) (sym c.pack.ensures) inv.wide.pairs;
         mouths = inv.wide.mouths;
         coming = subst (λ (own : Lanes). length s.coming ≡ length own.places) (sym c.pack.ensures) inv.wide.coming;
         handed = subst (λ (own : Lanes). length own.places ≤ vec_capacity s.handed) (sym c.pack.ensures) inv.wide.handed;

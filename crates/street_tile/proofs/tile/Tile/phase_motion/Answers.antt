@@ -50,6 +50,7 @@ invariant_of-self c =
       wide = record {
         nodes = inv.wide.nodes;
         numbered = rw places inv.wide.numbered;
+        pairs = rw places inv.wide.pairs;
         mouths = (let is = ap length mouths in let e = c.move_lanes.auto.mouths in let old = ap length c.deref_mut-2.ensures.value in let wide = inv.wide.mouths in omega arith);
         coming = rw places inv.wide.coming;
         handed = rw places inv.wide.handed;

@@ -44,6 +44,7 @@ invariant_of-self c =
       wide = record {
         nodes = inv.wide.nodes;
         numbered = inv.wide.numbered;
+        pairs = inv.wide.pairs;
         mouths = inv.wide.mouths;
         coming = inv.wide.coming;
         handed = inv.wide.handed;
