@@ -7,18 +7,20 @@ from collections.abc import Iterable, Sequence
 GROUPS = {  # the words of all commands by what they are of, as their options are named; other words stand in OTHER
     "Input": "map routes trips configuration counts zones matrix flows ratios candidates names sumo plans attribute "
     "study before template projection times saturation queues validate drivers configuration-file net-file route-files "
-    "additional-files",
+    "additional-files constraints",
     "Output": "output out csv warnings run sumo-output junctions polls along sealed title question plan-names short "
-    "detail sheets corridor strict no-open port log verbose no-warnings duration-log.statistics force",
+    "detail sheets corridor strict no-open port log verbose no-warnings duration-log.statistics force live shown ring "
+    "limit stop-lines",
     "SUMO's files": "tripinfo-output summary-output queue-output fcd-output vehroute-output statistic-output "
     "edgedata-output stop-output lanechange-output output-prefix save-configuration",
     "Time": "begin end until every step period first last interval slice what",
-    "Demand": "vehicles ends ways most error smallest",
+    "Demand": "vehicles ends ways most error smallest departures",
     "Seeds and search": "seeds check-seeds check budget precision rounds runs iterations gap share tried anew bounds "
-    "cycle least reserve verify-sumo free vary random",
-    "Streets and road works": "part close joint lost merge works-limit slow sign knowing edges both rescue",
+    "cycle least reserve verify-sumo free vary random mend",
+    "Streets and road works": "part close close-at joint lost merge works-limit slow sign knowing edges both rescue",
     "Lights and buses": "lights fixed priority seen stops",
-    "Model": "dawdle change zone seed residence buffer permissive classes turns sizes ignore-route-errors",
+    "Drivers": "dawdle speed-factor cut permissive change",
+    "Model": "zone seed residence buffer classes turns sizes ignore-route-errors",
     "Program and machine": "program proved workers jobs cluster keep remote-port num-clients large-files",
 }
 OTHER_WORDS, HELP = "Other words", "Help"
