@@ -1,5 +1,5 @@
 -- A line, from what was read of it.
-use Rattle.std.proofs.Common.{◌≡◌, ℕ, List, [], ◌∷◌, Bool, ◌&&◌, Result, Err, Some, refl, ap}
+use Rattle.std.proofs.Common.{◌≡◌, ℕ, List, [], ◌∷◌, ◌&&◌, Result, Err, Some, refl, ap}
 use Rattle.std.specs.List.{list_all}
 use Rattle.street_base.specs.declared.command.Command.{Command}
 use Rattle.street_stream.specs.Lines.{is_blank, is_space}

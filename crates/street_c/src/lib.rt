@@ -13,13 +13,13 @@ mod rows;
 mod session;
 mod statuses;
 
-ghost use Rattle.std.specs.Prelude.{◌≡◌, ◌≢◌, None, Some, IsSomeAnd, is_some, length, take};
+ghost use Rattle.std.specs.Prelude.{◌≡◌, ◌≢◌, ◌≤◌, ◌<◌, None, Some, IsSomeAnd, is_some, true, false, length, take, []};
 ghost use Rattle.street_base.specs.declared.command.Command.TheVariants.{Advance, Count, Enter, ReadMeter, Vehicle};
 ghost use Rattle.street_base.specs.declared.reply.Reply.TheVariants.{Census, Clock, Entered};
 ghost use Rattle.street_engine.specs.Prelude.{StandsFor};
-ghost use Rattle.street_c.specs.Answers.{Answered, Answers, AnswersLong, Both, EndsLine, HasUnsaid, NothingDone, Shows, TellsAgain};
-ghost use Rattle.street_c.specs.Shown.{ShowsRows, ShowsVehicle};
-ghost use Rattle.street_c.specs.declared.session.LineEnd.TheVariants.{Untold, Unserved};
+ghost use Rattle.street_c.specs.Answers.{Answered, Answers, AnswersLong, Both, EndsLine, Keeps, NothingDone, Shows, StaysUntold, TellsAgain, TellsLong, last_output};
+ghost use Rattle.street_c.specs.Shown.{LongRows, LongVehicle, ShowsRows, ShowsVehicle, is_census, is_clock, is_entered, is_rows, is_vehicle};
+ghost use Rattle.street_c.specs.declared.session.LineEnd.TheVariants.{Untold};
 
 use handle::Streetsim;
 use rows::{
@@ -34,7 +34,7 @@ use street_base::{Command, Listing, Reply};
 fn copy_out(session: &Session, room: &mut [u8], bytes: &mut usize) -> u32
     ensures told { result ≡ 0 → take bytes.new room.new ≡ session.now.text.items }
     ensures long { bytes.new ≡ length session.now.text.items }
-    ensures ends { result ≢ 0 → result ≡ 3 }
+    ensures short { result ≢ 0 → (result ≡ 3) × (length room.old < bytes.new) }
 {
     let text = session.text();
     *bytes = text.len();
@@ -54,9 +54,10 @@ fn serve_line(
     bytes: &mut usize,
 ) -> u32
     ensures served { result ≡ 0 → Answers line.now (take bytes.new room.new) session.old session.new }
-    ensures long { result ≡ 3 → AnswersLong line.now bytes.new session.old session.new }
+    ensures long { result ≡ 3 → AnswersLong line.now bytes.new room.old session.old session.new }
     ensures untold { result ≡ 4 → EndsLine session.old line.now Untold session.new }
-    ensures starved { result ≡ 1 → EndsLine session.old line.now Unserved session.new }
+    ensures starved { result ≡ 1 → NothingDone session.old session.new }
+    ensures ends { (result ≢ 2) × (result ≤ 4) }
 {
     match session.line(alloc, line) {
         LineEnd::Told => copy_out(session, room, bytes),
@@ -68,7 +69,9 @@ fn serve_line(
 /// Makes the line of the last reply, where it is not made yet, and copies it.
 fn tell_again(alloc: Global, session: &mut Session, room: &mut [u8], bytes: &mut usize) -> u32
     ensures told { result ≡ 0 → TellsAgain (take bytes.new room.new) session.old session.new }
-    ensures ends { result ≢ 2 }
+    ensures long { result ≡ 3 → TellsLong bytes.new room.old session.old session.new }
+    ensures untold { result ≡ 4 → StaysUntold session.old session.new }
+    ensures ends { (result ≢ 1) × (result ≢ 2) × (result ≤ 4) }
 {
     match session.say(alloc) {
         Ok(()) => copy_out(session, room, bytes),
@@ -79,7 +82,8 @@ fn tell_again(alloc: Global, session: &mut Session, room: &mut [u8], bytes: &mut
 /// Has the session serve an advance.
 fn advance(session: &mut Session, steps: u64, clock: &mut u64) -> u32
     ensures done { result ≡ 0 → Answered (Advance steps) (Clock clock.new) session.old session.new }
-    ensures other { result ≡ 5 → HasUnsaid session.old (Advance steps) session.new }
+    ensures other { result ≡ 5 → Keeps (λ reply. is_clock reply ≡ false) (Advance steps) session.old session.new }
+    ensures ends { (result ≢ 1) × (result ≢ 2) × (result ≢ 3) × (result ≢ 4) × (result ≤ 5) }
 {
     match session.serve(&Command::Advance { steps }) {
         Reply::Clock { clock: after } => {
@@ -97,7 +101,8 @@ fn advance(session: &mut Session, steps: u64, clock: &mut u64) -> u32
 fn count(session: &mut Session, census: &mut StreetsimCensus) -> u32
     ensures done { let c = census.new in result ≡ 0
         → Answered Count (Census c.admitted c.arrived c.buffers c.cells c.clock c.taken c.waiting) session.old session.new }
-    ensures other { result ≡ 5 → HasUnsaid session.old Count session.new }
+    ensures other { result ≡ 5 → Keeps (λ reply. is_census reply ≡ false) Count session.old session.new }
+    ensures ends { (result ≢ 1) × (result ≢ 2) × (result ≢ 3) × (result ≢ 4) × (result ≤ 5) }
 {
     match session.serve(&Command::Count) {
         Reply::Census {
@@ -132,6 +137,7 @@ fn finish(session: &mut Session, reply: Reply, status: u32) -> u32
     ensures engine { session.new.engine ≡ session.old.engine }
     ensures same { result ≡ status }
     ensures kept { status ≢ 0 → session.new.unsaid ≡ Some reply }
+    ensures shown { status ≡ 0 → session.new ≡ session.old }
 {
     if status != DONE {
         session.keep(reply);
@@ -148,7 +154,9 @@ fn vehicle(
     links: &mut usize,
 ) -> u32
     ensures done { result ≡ 0 → Shows (ShowsVehicle row.new (take links.new plan.new)) (Vehicle car) session.old session.new }
-    ensures other { result ≢ 0 → HasUnsaid session.old (Vehicle car) session.new }
+    ensures long { result ≡ 3 → Keeps (LongVehicle row.new links.new plan.old) (Vehicle car) session.old session.new }
+    ensures other { result ≡ 5 → Keeps (λ reply. is_vehicle reply ≡ false) (Vehicle car) session.old session.new }
+    ensures ends { (result ≢ 1) × (result ≢ 2) × (result ≢ 4) × (result ≤ 5) }
 {
     let reply = session.serve(&Command::Vehicle { car });
     let status = show_vehicle(&reply, row, plan, links);
@@ -165,7 +173,10 @@ fn read(
     count: &mut usize,
 ) -> u32
     ensures done { result ≡ 0 → Shows (ShowsRows running.new (take count.new rows.new)) (ReadMeter meter) session.old session.new }
-    ensures other { result ≢ 0 → HasUnsaid session.old (ReadMeter meter) session.new }
+    ensures long { result ≡ 3 → Keeps (LongRows running.new count.new rows.old) (ReadMeter meter) session.old session.new }
+    ensures untold { result ≡ 4 → Keeps (λ reply. is_rows reply ≡ true) (ReadMeter meter) session.old session.new }
+    ensures other { result ≡ 5 → Keeps (λ reply. is_rows reply ≡ false) (ReadMeter meter) session.old session.new }
+    ensures ends { (result ≢ 1) × (result ≢ 2) × (result ≤ 5) }
 {
     let reply = session.serve(&Command::ReadMeter { meter });
     let status = show_rows(alloc, &reply, running, rows, count);
@@ -183,7 +194,8 @@ fn enter(
     car: &mut u64,
 ) -> u32
     ensures done { result ≡ 0 → Answered (Enter plan.now lane depart size) (Entered car.new) session.old session.new }
-    ensures other { result ≡ 5 → HasUnsaid session.old (Enter plan.now lane depart size) session.new }
+    ensures other { result ≡ 5 → Keeps (λ reply. is_entered reply ≡ false) (Enter plan.now lane depart size) session.old session.new }
+    ensures ends { (result ≢ 2) × (result ≢ 3) × (result ≢ 4) × (result ≤ 5) }
     ensures starved { result ≡ 1 → NothingDone session.old session.new }
 {
     let mut links = Vec::new(alloc);
@@ -211,8 +223,12 @@ fn enter(
 /// Opens a session with nothing loaded. The handle is all zeros, or a closed one.
 #[unsafe(no_mangle)]
 pub extern "C" fn streetsim_open(alloc: Global, handle: &mut Streetsim) -> u32
-    ensures opened { result ≡ 0 → (handle.old.handle.held ≡ None) × IsSomeAnd handle.new.handle.held (λ s. StandsFor s.engine None) }
+    ensures opened { result ≡ 0
+        → (handle.old.handle.held ≡ None) × IsSomeAnd handle.new.handle.held (λ s. StandsFor s.engine None × (last_output s ≡ [])) }
     ensures kept { result ≢ 0 → handle.new.handle.held ≡ handle.old.handle.held }
+    ensures misused { result ≡ 2 → is_some handle.old.handle.held ≡ true }
+    ensures open { is_some handle.old.handle.held ≡ true → result ≡ 2 }
+    ensures ends { result ≤ 2 }
 {
     if handle.is_open() {
         return MISUSED;
@@ -235,10 +251,12 @@ pub extern "C" fn streetsim_line(
     bytes: &mut usize,
 ) -> u32
     ensures served { result ≡ 0 → Both (Answers line.now (take bytes.new room.new)) handle.old.handle.held handle.new.handle.held }
-    ensures long { result ≡ 3 → Both (AnswersLong line.now bytes.new) handle.old.handle.held handle.new.handle.held }
+    ensures long { result ≡ 3 → Both (AnswersLong line.now bytes.new room.old) handle.old.handle.held handle.new.handle.held }
     ensures untold { result ≡ 4 → Both (λ old new. EndsLine old line.now Untold new) handle.old.handle.held handle.new.handle.held }
-    ensures starved { result ≡ 1 → Both (λ old new. EndsLine old line.now Unserved new) handle.old.handle.held handle.new.handle.held }
+    ensures starved { result ≡ 1 → Both NothingDone handle.old.handle.held handle.new.handle.held }
+    ensures ends { result ≤ 4 }
     ensures closed { handle.old.handle.held ≡ None → result ≡ 2 }
+    ensures misused { result ≡ 2 → handle.old.handle.held ≡ None }
     ensures kept { is_some handle.new.handle.held ≡ is_some handle.old.handle.held }
 {
     let Some(mut session) = handle.take(alloc) else {
@@ -258,7 +276,11 @@ pub extern "C" fn streetsim_reply(
     bytes: &mut usize,
 ) -> u32
     ensures told { result ≡ 0 → Both (TellsAgain (take bytes.new room.new)) handle.old.handle.held handle.new.handle.held }
+    ensures long { result ≡ 3 → Both (TellsLong bytes.new room.old) handle.old.handle.held handle.new.handle.held }
+    ensures untold { result ≡ 4 → Both StaysUntold handle.old.handle.held handle.new.handle.held }
+    ensures ends { (result ≢ 1) × (result ≤ 4) }
     ensures closed { handle.old.handle.held ≡ None → result ≡ 2 }
+    ensures misused { result ≡ 2 → handle.old.handle.held ≡ None }
     ensures kept { is_some handle.new.handle.held ≡ is_some handle.old.handle.held }
 {
     let Some(mut session) = handle.take(alloc) else {
@@ -278,8 +300,10 @@ pub extern "C" fn streetsim_advance(
     clock: &mut u64,
 ) -> u32
     ensures done { result ≡ 0 → Both (Answered (Advance steps) (Clock clock.new)) handle.old.handle.held handle.new.handle.held }
-    ensures other { result ≡ 5 → Both (λ old new. HasUnsaid old (Advance steps) new) handle.old.handle.held handle.new.handle.held }
+    ensures other { result ≡ 5 → Both (Keeps (λ reply. is_clock reply ≡ false) (Advance steps)) handle.old.handle.held handle.new.handle.held }
+    ensures ends { (result ≢ 1) × (result ≢ 3) × (result ≢ 4) × (result ≤ 5) }
     ensures closed { handle.old.handle.held ≡ None → result ≡ 2 }
+    ensures misused { result ≡ 2 → handle.old.handle.held ≡ None }
     ensures kept { is_some handle.new.handle.held ≡ is_some handle.old.handle.held }
 {
     let Some(mut session) = handle.take(alloc) else {
@@ -299,8 +323,10 @@ pub extern "C" fn streetsim_count(
 ) -> u32
     ensures done { let c = census.new in result ≡ 0
         → Both (Answered Count (Census c.admitted c.arrived c.buffers c.cells c.clock c.taken c.waiting)) handle.old.handle.held handle.new.handle.held }
-    ensures other { result ≡ 5 → Both (λ old new. HasUnsaid old Count new) handle.old.handle.held handle.new.handle.held }
+    ensures other { result ≡ 5 → Both (Keeps (λ reply. is_census reply ≡ false) Count) handle.old.handle.held handle.new.handle.held }
+    ensures ends { (result ≢ 1) × (result ≢ 3) × (result ≢ 4) × (result ≤ 5) }
     ensures closed { handle.old.handle.held ≡ None → result ≡ 2 }
+    ensures misused { result ≡ 2 → handle.old.handle.held ≡ None }
     ensures kept { is_some handle.new.handle.held ≡ is_some handle.old.handle.held }
 {
     let Some(mut session) = handle.take(alloc) else {
@@ -324,8 +350,12 @@ pub extern "C" fn streetsim_vehicle(
 ) -> u32
     ensures done { result ≡ 0
         → Both (Shows (ShowsVehicle row.new (take links.new plan.new)) (Vehicle car)) handle.old.handle.held handle.new.handle.held }
-    ensures other { result ≢ 0 → result ≢ 2 → Both (λ old new. HasUnsaid old (Vehicle car) new) handle.old.handle.held handle.new.handle.held }
+    ensures long { result ≡ 3
+        → Both (Keeps (LongVehicle row.new links.new plan.old) (Vehicle car)) handle.old.handle.held handle.new.handle.held }
+    ensures other { result ≡ 5 → Both (Keeps (λ reply. is_vehicle reply ≡ false) (Vehicle car)) handle.old.handle.held handle.new.handle.held }
+    ensures ends { (result ≢ 1) × (result ≢ 4) × (result ≤ 5) }
     ensures closed { handle.old.handle.held ≡ None → result ≡ 2 }
+    ensures misused { result ≡ 2 → handle.old.handle.held ≡ None }
     ensures kept { is_some handle.new.handle.held ≡ is_some handle.old.handle.held }
 {
     let Some(mut session) = handle.take(alloc) else {
@@ -349,9 +379,11 @@ pub extern "C" fn streetsim_enter(
     car: &mut u64,
 ) -> u32
     ensures done { result ≡ 0 → Both (Answered (Enter plan.now lane depart size) (Entered car.new)) handle.old.handle.held handle.new.handle.held }
-    ensures other { result ≡ 5 → Both (λ old new. HasUnsaid old (Enter plan.now lane depart size) new) handle.old.handle.held handle.new.handle.held }
+    ensures other { result ≡ 5 → Both (Keeps (λ reply. is_entered reply ≡ false) (Enter plan.now lane depart size)) handle.old.handle.held handle.new.handle.held }
+    ensures ends { (result ≢ 3) × (result ≢ 4) × (result ≤ 5) }
     ensures starved { result ≡ 1 → Both NothingDone handle.old.handle.held handle.new.handle.held }
     ensures closed { handle.old.handle.held ≡ None → result ≡ 2 }
+    ensures misused { result ≡ 2 → handle.old.handle.held ≡ None }
     ensures kept { is_some handle.new.handle.held ≡ is_some handle.old.handle.held }
 {
     let Some(mut session) = handle.take(alloc) else {
@@ -375,8 +407,13 @@ pub extern "C" fn streetsim_read(
 ) -> u32
     ensures done { result ≡ 0
         → Both (Shows (ShowsRows running.new (take count.new rows.new)) (ReadMeter meter)) handle.old.handle.held handle.new.handle.held }
-    ensures other { result ≢ 0 → result ≢ 2 → Both (λ old new. HasUnsaid old (ReadMeter meter) new) handle.old.handle.held handle.new.handle.held }
+    ensures long { result ≡ 3
+        → Both (Keeps (LongRows running.new count.new rows.old) (ReadMeter meter)) handle.old.handle.held handle.new.handle.held }
+    ensures untold { result ≡ 4 → Both (Keeps (λ reply. is_rows reply ≡ true) (ReadMeter meter)) handle.old.handle.held handle.new.handle.held }
+    ensures other { result ≡ 5 → Both (Keeps (λ reply. is_rows reply ≡ false) (ReadMeter meter)) handle.old.handle.held handle.new.handle.held }
+    ensures ends { (result ≢ 1) × (result ≤ 5) }
     ensures closed { handle.old.handle.held ≡ None → result ≡ 2 }
+    ensures misused { result ≡ 2 → handle.old.handle.held ≡ None }
     ensures kept { is_some handle.new.handle.held ≡ is_some handle.old.handle.held }
 {
     let Some(mut session) = handle.take(alloc) else {

@@ -1,11 +1,11 @@
 //! What C sees of replies: structs of numbers, all of 64 bits. `lib.rt` fills them.
-ghost use Rattle.std.specs.Prelude.{◌≡◌, IfOk, true, map, take};
+ghost use Rattle.std.specs.Prelude.{◌≡◌, ◌≢◌, ◌≤◌, ◌<◌, IfOk, true, false, length, map, take};
 ghost use Rattle.street_base.specs.declared.reply.Whereabouts.TheVariants.{Ended};
-ghost use Rattle.street_c.specs.Shown.{ShowsRows, ShowsVehicle, full_row, plan_of, vehicle_row};
+ghost use Rattle.street_c.specs.Shown.{LongRows, LongVehicle, ShowsRows, ShowsVehicle, full_row, is_rows, is_vehicle, plan_of, running_row, vehicle_row};
 
 use crate::statuses::{DONE, OTHER, SHORT, UNTOLD};
 use std::alloc::{AllocError, Global};
-use street_base::{End, MeterRow, Reply, Whereabouts};
+use street_base::{End, MeterRow, Reply, RunningRow, Whereabouts};
 
 /// How many vehicles stand where or have ended how, and the clock.
 #[repr(C)]
@@ -166,7 +166,9 @@ pub struct StreetsimRunning {
 
 /// Copies numbers to the start of the room, as far as there is room for all of them, and tells how many they are: whether there is.
 fn copy_numbers(numbers: &[u64], room: &mut [u64], count: &mut usize) -> bool
-    ensures { result ≡ true → take count.new room.new ≡ numbers.now }
+    ensures copied { result ≡ true → take count.new room.new ≡ numbers.now }
+    ensures counted { count.new ≡ length numbers.now }
+    ensures short { result ≡ false → length room.old < count.new }
 {
     *count = numbers.len();
     if numbers.len() > room.len() {
@@ -183,7 +185,10 @@ pub fn show_vehicle(
     plan: &mut [u64],
     links: &mut usize,
 ) -> u32
-    ensures { result ≡ 0 → ShowsVehicle row.new (take links.new plan.new) reply.now }
+    ensures done { result ≡ 0 → ShowsVehicle row.new (take links.new plan.new) reply.now }
+    ensures long { result ≡ 3 → LongVehicle row.new links.new plan.old reply.now }
+    ensures other { result ≡ 5 → is_vehicle reply.now ≡ false }
+    ensures served { (result ≢ 1) × (result ≢ 2) × (result ≢ 4) × (result ≤ 5) }
 {
     let Reply::Vehicle {
         car: _,
@@ -212,6 +217,19 @@ fn full_row(row: &MeterRow) -> StreetsimRow
     }
 }
 
+/// The row of the running period.
+fn running_row(now: &RunningRow) -> StreetsimRunning
+    ensures { result ≡ running_row now.now }
+{
+    StreetsimRunning {
+        start: now.start,
+        steps: now.steps,
+        passes: now.passes,
+        speeds: now.speeds,
+        occupied: now.occupied,
+    }
+}
+
 /// The rows of full periods.
 fn full_rows(alloc: Global, rows: &[MeterRow]) -> Result<Vec<StreetsimRow>, AllocError>
     ensures { IfOk result (λ made. made.items ≡ map full_row rows.now) }
@@ -221,7 +239,9 @@ fn full_rows(alloc: Global, rows: &[MeterRow]) -> Result<Vec<StreetsimRow>, Allo
 
 /// Copies rows to the start of the room, as far as there is room for all of them, and tells how many they are: whether there is.
 fn copy_rows(rows: &[StreetsimRow], room: &mut [StreetsimRow], count: &mut usize) -> bool
-    ensures { result ≡ true → take count.new room.new ≡ rows.now }
+    ensures copied { result ≡ true → take count.new room.new ≡ rows.now }
+    ensures counted { count.new ≡ length rows.now }
+    ensures short { result ≡ false → length room.old < count.new }
 {
     *count = rows.len();
     if rows.len() > room.len() {
@@ -239,18 +259,16 @@ pub fn show_rows(
     rows: &mut [StreetsimRow],
     count: &mut usize,
 ) -> u32
-    ensures { result ≡ 0 → ShowsRows running.new (take count.new rows.new) reply.now }
+    ensures done { result ≡ 0 → ShowsRows running.new (take count.new rows.new) reply.now }
+    ensures long { result ≡ 3 → LongRows running.new count.new rows.old reply.now }
+    ensures untold { result ≡ 4 → is_rows reply.now ≡ true }
+    ensures other { result ≡ 5 → is_rows reply.now ≡ false }
+    ensures served { (result ≢ 1) × (result ≢ 2) × (result ≤ 5) }
 {
     let Reply::Rows { now, rows: full } = reply else {
         return OTHER;
     };
-    *running = StreetsimRunning {
-        start: now.start,
-        steps: now.steps,
-        passes: now.passes,
-        speeds: now.speeds,
-        occupied: now.occupied,
-    };
+    *running = running_row(now);
     let Ok(made) = full_rows(alloc, full.as_slice()) else {
         return UNTOLD;
     };

@@ -1,13 +1,11 @@
 //! What a handle holds: an engine with its reader of lines, and the last reply, which is kept until the next call. `lib.rt` has one behind
 //! each open handle.
-ghost use Rattle.std.specs.Prelude.{◌≡◌, Some, None, Ok, IfOk, OnErr};
+ghost use Rattle.std.specs.Prelude.{◌≡◌, ◌≢◌, Some, None, Ok, IfOk, OnErr, []};
 ghost use Rattle.std.specs.List.{list_all};
-ghost use Rattle.street_base.specs.declared.reply.Reply.{Reply as Told};
 ghost use Rattle.street_engine.specs.Prelude.{StandsFor};
 ghost use Rattle.street_stream.specs.Lines.{is_blank, is_space};
 ghost use Rattle.street_text.specs.LineCommands.{reading};
-ghost use Rattle.street_text.specs.ReplyLines.{reply_line};
-ghost use Rattle.street_c.specs.Answers.{EndsCall, EndsLine, EndsRead, Replies};
+ghost use Rattle.street_c.specs.Answers.{EndsCall, EndsLine, EndsRead, NothingDone, Replies, last_output};
 
 use std::alloc::Global;
 use street_base::{Command, Reply, Starved};
@@ -32,7 +30,7 @@ pub enum LineEnd {
     Told,
     /// Its command was served, and memory was refused for the line of its reply, which the session has.
     Untold,
-    /// Memory was refused, and nothing was served.
+    /// Memory was refused, and nothing was done.
     Unserved,
 }
 
@@ -60,7 +58,8 @@ fn is_blank(line: &[u8]) -> bool
 impl Session {
     /// A session with nothing loaded.
     pub fn new(alloc: Global) -> Session
-        ensures { StandsFor result.engine None }
+        ensures empty { StandsFor result.engine None }
+        ensures silent { last_output result ≡ [] }
     {
         Session {
             engine: Engine::new(alloc, 1, Unwatched::new()),
@@ -72,7 +71,8 @@ impl Session {
 
     /// Has the engine serve a command. No reply is kept.
     pub fn serve(&mut self, command: &Command) -> Reply
-        ensures { Replies self.old.engine command.now result self.new.engine }
+        ensures answered { Replies self.old.engine command.now result self.new.engine }
+        ensures silent { last_output self.new ≡ [] }
     {
         self.text.clear();
         self.unsaid = None;
@@ -95,10 +95,9 @@ impl Session {
     ///
     /// Memory for the line was refused; the reply is kept.
     pub fn say(&mut self, alloc: Global) -> Result<(), Starved>
-        ensures engine { self.new.engine ≡ self.old.engine }
-        ensures said { (reply : Told) → self.old.unsaid ≡ Some reply → IfOk result (λ _. self.new.text.items ≡ reply_line reply) }
-        ensures kept { OnErr result (self.new.unsaid ≡ self.old.unsaid) }
-        ensures still { self.old.unsaid ≡ None → self.new ≡ self.old }
+        ensures still { NothingDone self.old self.new }
+        ensures said { IfOk result (λ _. (self.new.text.items ≡ last_output self.old) × (self.new.unsaid ≡ None)) }
+        ensures kept { OnErr result ((self.new ≡ self.old) × (self.old.unsaid ≢ None)) }
     {
         let Some(reply) = &self.unsaid else {
             return Ok(());
@@ -129,6 +128,7 @@ impl Session {
             Err(fault) => match fault_text(alloc, fault) {
                 Ok(text) => {
                     self.text = text;
+                    self.unsaid = None;
                     LineEnd::Told
                 }
                 Err(Starved) => LineEnd::Unserved,
@@ -140,9 +140,9 @@ impl Session {
     pub fn line(&mut self, alloc: Global, line: &[u8]) -> LineEnd
         ensures { EndsLine self.old line.now result self.new }
     {
-        self.text.clear();
-        self.unsaid = None;
         if is_blank(line) {
+            self.text.clear();
+            self.unsaid = None;
             return LineEnd::Told;
         }
         self.read(alloc, line)

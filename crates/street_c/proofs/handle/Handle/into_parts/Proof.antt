@@ -1,6 +1,6 @@
 -- `into_parts` moves the pointer and the allocator of a handle, and the session that it holds is then the parts'.
 use Rattle.std.specs.Prelude.{Option, Some, None, is_some, true}
-use Rattle.street_c.proofs.Steps.{List, [], ◌∷◌, ◌++◌, ◌≡◌, refl, sym, subst, Ura, Val, SProp, emp, ent, id⊢, fsep, ftrue, Memory, Routine, Fun, fact, Tables, WpFn, WpFn-mono, tables, tables_of, Logic, Item, ‵, raw, ◌⊛◌, ◌$◌, ◌∵◌, !, qed, by, move, drop, use1, rewrite, join, split, fsplit, fjoin, suffices, done, agg, sub, whole, and_then, enter, fld, no_more, of_opd, returns, stop, alloc_all, free_all, get, get_in, look_at, pass_all, sets, yes, type_at, heard, nothing, triple_of, entered, Goes-dropped, Stays, ends_at, says, stay_dropped, walk_Meets, walk_of, D, B, word, box_typed}
+use Rattle.street_c.proofs.Steps.{List, [], ◌∷◌, ◌++◌, ◌≡◌, refl, sym, subst, Ura, Val, SProp, ent, id⊢, fsep, ftrue, Memory, Routine, Fun, fact, Tables, WpFn, WpFn-mono, tables, tables_of, Logic, Item, ‵, raw, ◌⊛◌, ◌$◌, ◌∵◌, !, qed, by, move, drop, use1, rewrite, join, split, fsplit, fjoin, suffices, done, agg, sub, whole, and_then, enter, fld, no_more, of_opd, returns, stop, alloc_all, free_all, get, get_in, look_at, pass_all, sets, yes, type_at, heard, nothing, triple_of, entered, Goes-dropped, Stays, ends_at, says, stay_dropped, walk_Meets, walk_of, D, word, box_typed}
 use Rattle.street_c.proofs.AsBox.{E, FromHandle, as_word}
 use Rattle.street_c.specs.contracts.session.Session.{the_row as Held}
 use Rattle.street_c.specs.contracts.handle.Handle as Handle
