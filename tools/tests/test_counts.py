@@ -677,7 +677,7 @@ class Fit(Tool):
         """One edge of seven is counted: trips begin and end on any edge, where no word says otherwise."""
         told, ends = self.chain("--runs", 0)
         with mock.patch.dict(os.environ, {"STREETSIM_PROGRAM": "/no/program"}):
-            self.assertIn("(--ends); no simulator is there to tell whether it locks", self.chain()[0])
+            self.assertIn("(--ends); no simulator is there to see whether it locks", self.chain()[0])
         self.assertNotIn("few edges are counted", told)
         self.assertGreater(len(ends), 1)
         self.assertEqual(self.chain("--runs", 0, "--ends", "fringe")[1], {("a", "g")})

@@ -45,7 +45,7 @@ MATRICES = (
     ("from,to,vehicles\n1,2,5\n1,2,6\n", "line 3: 1 to 2 a second time, as .*line 2"),
     (
         "from,to,vehicles,begin,end\n1,2,5,0,900\n2,1,5,0,900\n1,2,6,600,1500\n",
-        "line 4: 1 to 2 is told already until 900 s, by .*line 2",
+        "line 4: 1 to 2 is given already until 900 s, by .*line 2",
     ),
     ("from,to,vehicles\n1,2,0\n", "line 2 and 0 more: the matrix is empty"),
     (O_FORMAT + "1 2\n", "line 6: expected from, to and vehicles"),

@@ -141,7 +141,7 @@ class Demand(Case):
                 "skipped: 1 vehicles: depart='triggered' is no time",
                 "skipped: 1 vehicles: two edges of the route have no connection",
                 "warning: 1 stops of vehicles are not made, without duration and until, with which SUMO's vehicle "
-                "stands for good: x at a_0 (who stands in others' way: streetsim-run --close, for as long)",
+                "stands for good: x at a_0 (a vehicle in others' way: streetsim-run --close, for as long)",
                 "warning: 1 edges became parallel links of one or two lanes, between which nobody changes lane: a "
                 "(--joint EDGES joins their lanes)",
                 "warning: no vehicle drives",

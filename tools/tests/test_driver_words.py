@@ -57,8 +57,8 @@ class Imported(Case):
             made = drivers_of(import_parser().parse_args(["net.xml", "--permissive", "0.5,wc=0.4"]))
         self.assertEqual(made["shares"], (("wc", 0.4),))
         self.assertEqual(
-            said.getvalue(), "--permissive 0.5 has no effect any more: who gives way at a light goes by who comes; "
-            "EDGE=SHARE keeps a survey's share\n",
+            said.getvalue(), "--permissive 0.5 has no effect any more: vehicles give way at lights by the gaps "
+            "that there are; EDGE=SHARE keeps a survey's share\n",
         )  # fmt: skip
 
     def test_seconds_are_cut_from_each_green(self):
@@ -107,7 +107,7 @@ class Imported(Case):
         self.assertEqual(told, {lane: one.demand for lane, one in imported[0].items()})
         self.assertGreater(told["wc_0"], LOADED)
         self.assertEqual((given.loaded, imported[1]), ({}, {}))
-        self.assertIn("lefts that give way, which no survey told", "".join(short.doubts))
+        self.assertIn("lefts that give way, without a survey", "".join(short.doubts))
         self.assertEqual([text for text in given.doubts if "lefts" in text], [])
 
 
@@ -120,7 +120,7 @@ class Doubts(unittest.TestCase):
 
     def test_lefts_that_a_variant_loads(self):
         loaded, free = self.lane("a_0", LEFT_TURN, 0.9), self.lane("a_0", LEFT_TURN, 0.82)
-        self.assertIn("lefts that give way, which no survey told", self.told(loaded, {})[0])
+        self.assertIn("lefts that give way, without a survey", self.told(loaded, {})[0])
         self.assertEqual(len(self.told(loaded, free)), 1)
         self.assertEqual(self.told(loaded, loaded), [])
         self.assertEqual(self.told(free, {}), [])

@@ -256,8 +256,8 @@ class Ended(Case):
         running = self.begin("--keep", self.folder / "day")
         running.send_signal(signal.SIGTERM)
         _, said = running.communicate(timeout=20)
-        told = f"streetsim-run: ended by SIGTERM: kept: {self.folder}/day, the session: the same words go on there\n"
-        self.assertEqual(said.decode(), told)
+        told = f"streetsim-run: ended by SIGTERM: kept: {self.folder}/day, the session: the same command goes on "
+        self.assertEqual(said.decode(), f"{told}there\n")
 
     def test_what_sigkill_left_goes_with_the_next_output(self):
         """What a tool still writes stays."""

@@ -180,7 +180,7 @@ class CellSlips(Case):
     def test_many_slips_are_twenty_lines(self):
         text = re.sub(r"^(07:..),(.),(\d+)", r"\1,\2,x\3", template("cross"), flags=re.MULTILINE)
         text = re.sub(r",(\d+),(\d)$", r",y\1,\2", text, flags=re.MULTILINE)
-        with redirect_stderr(StringIO()) as told, self.assertRaisesRegex(Fault, "slips, told by cell above"):
+        with redirect_stderr(StringIO()) as told, self.assertRaisesRegex(Fault, "slips, named by cell above"):
             read_layout(self.write("sheet.csv", text))
         self.assertEqual(len(told.getvalue().splitlines()), 20)
 

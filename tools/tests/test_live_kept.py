@@ -229,7 +229,7 @@ class Kept(KeptCase):
         self.assertIn("a session that is kept stays as it was", self.post("join", "a", 404))
         self.kill()
         time.sleep(0.2)
-        self.refused("--keep", self.file, "--rescue", 60, fault="of another run, or of this one with other words")
+        self.refused("--keep", self.file, "--rescue", 60, fault="of another run, or of this one with other options")
         self.file.write_text('{"cmd":"load"}\n')
         self.refused("--keep", self.file, fault="line 1 is not of this run")
 

@@ -83,12 +83,12 @@ class Works(Given):
             "0:05 to 0:15 101.5 1350 10 5 15 40 22 12",  # means of two seeds, of the greatest the greatest
             "0:15 to 0:20 50 - 0 0 0 0",  # nobody queued
             # 101 and 102 vehicles of 10 s each in two runs: 1,015 s.
-            "In all 0.28 vehicle-hours were lost by those who passed. Capacity -: no queue stood for a quarter of",
+            "In all 0.28 vehicle-hours were lost by vehicles that passed. Capacity -: no queue stood for a quarter of",
             "For a closed lane, forecasts with an uncalibrated base were off by more than the change itself on 6 "
             "streets: streetsim-calibrate first.",
             "Closed: 30 m of a lane of the street from the west at Junction B, from 0:05 to 0:20. Queue: 22 m at the "
-            "longest, from 0:05 to 0:15. Wait: in the worst time, 0:05 to 0:15, one who passes the works waits 10 s; "
-            "152 vehicles pass in all.",
+            "longest, from 0:05 to 0:15. Wait: in the worst time, 0:05 to 0:15, a vehicle that passes the works waits "
+            "10 s; 152 vehicles pass in all.",
         ):
             with self.subTest(words):
                 self.assertIn(words, text)

@@ -207,7 +207,7 @@ class Marks(unittest.TestCase):
             self.assertIn(told, why(Doubt(MOVEMENT, "B", "a", f"v/c {size:.2f}", ALL, target="b", size=size)))
         self.assertEqual(why(Doubt(MOVEMENT, "B", "a", "two rescues", ALL)), "two rescues")
         waiting = Doubt(MOVEMENT, "B", "a", "v/c 0.62", ALL, target="b", size=0.62)
-        self.assertEqual(why(waiting), "who turns here waits for gaps (62 % of what can pass)")
+        self.assertEqual(why(waiting), "a vehicle that turns here waits for gaps (62 % of what can pass)")
 
     def test_doubted_places_of_two_plans(self):
         """Of each place the worst, with the plans that have it."""

@@ -97,7 +97,7 @@ class Import(Case):
 
     def test_unknown_types_and_faults(self):
         self.assertEqual(self.sizes(vehicles(1, "ghost")), [1])
-        self.assertIn("vehicle types that no file tells are taken for cars: ghost", self.report.warnings)
+        self.assertIn("vehicle types that no file defines are taken for cars: ghost", self.report.warnings)
         for text, words in (
             ('<vType id="t" length="-1"/>', "<vType 't'>: length='-1' cannot be read"),
             ('<vType id="t" minGap="wide"/>', "<vType 't'>: minGap='wide' cannot be read"),

@@ -244,7 +244,7 @@ class Ends(Studies):
             "red: no vehicle has changed its cell for 660 s, longer than the longest cycle, 600 s: seed 1 at 1,380 s, "
             "seed 2 at 1,380 s",
         )
-        self.assertIn("red: 2 of 2 runs ended before all had arrived, who count until then", told[-1])
+        self.assertIn("red: 2 of 2 runs ended before all had arrived; the others count until then", told[-1])
 
     def test_queues_at_entries(self):
         waited = "10 of 20 vehicles waited to enter at some 60 s, and are in no queue or count"

@@ -140,7 +140,7 @@ class Marks(unittest.TestCase):
         """Above one in a hundred, and more than one."""
         for vehicles, rescues, told in (
             (100, 1, []),
-            (100, 2, ["2 rescues of 100 vehicles (who stood too long and were put down on the next link)"]),
+            (100, 2, ["2 rescues of 100 vehicles (these stood too long, and were put down on the next link)"]),
             (1, 1, []),
             (300, 3, []),
         ):

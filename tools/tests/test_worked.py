@@ -316,7 +316,7 @@ class Pockets(unittest.TestCase):
         for how, searched, told in (
             ("lead", False, "these are led from a_0, for that time alone (--lost wait: they wait until the works end)"),
             ("wait", False, "these wait until the works end"),
-            ("bar", True, "ways round are searched for those who come meanwhile"),
+            ("bar", True, "ways round are searched for vehicles that come meanwhile"),
         ):
             before = "works on a_1 close the only lane from which 2 vehicles turn to c while they last: "
             self.assertEqual(list(told_of_lost(lost, self.map, how, searched)), [before + told])

@@ -180,12 +180,13 @@ class Works(Case):
         run, mapped = self.imported()
         told = self.run_with(run, mapped, "a_0:100-200:60-300", "a_1:150-250:200-400")[0]
         self.assertIn(
-            "edge a: all lanes are closed between 200 and 300 s; nobody takes another way, so who of the 100 vehicles",
+            "edge a: all lanes are closed between 200 and 300 s; nobody takes another way, so those of the 100 "
+            "vehicles through it that come meanwhile wait",
             told,
         )
         told = self.run_with(run, mapped, "to0_0:50-100:60-300")[0]
         self.assertIn("edge to0: its only lane is closed between 60 and 300 s", told)
-        self.assertIn("waits before the works (streetsim-route .. --close finds ways round)\n", told)
+        self.assertIn("wait before the works (streetsim-route .. --close finds ways round)\n", told)
 
     def test_beyond_the_end(self):
         run, mapped = self.imported()

@@ -23,7 +23,7 @@ GROUPS = {  # the words of all commands by what they are of, as their options ar
     "Model": "zone seed residence buffer classes turns sizes ignore-route-errors",
     "Program and machine": "program proved workers jobs cluster keep remote-port num-clients large-files",
 }
-OTHER_WORDS, HELP = "Other words", "Help"
+OTHER_WORDS, HELP = "Other options", "Help"
 GROUP_OF = {word: title for title, words in GROUPS.items() for word in words.split()}
 
 
@@ -51,7 +51,7 @@ def help_of(parser: argparse.ArgumentParser, examples: Sequence[str]) -> str:
     """The text of --help of a command: how it goes, with the words that it must have; what it does; its words in
     groups; its examples."""
     formatter = parser._get_formatter()
-    more = argparse.Action([], "words", nargs="?", metavar="WORDS")
+    more = argparse.Action([], "words", nargs="?", metavar="OPTIONS")
     must = [action for action in parser._actions if action.required or not action.option_strings]
     formatter.add_usage(parser.usage, [*must, more], [])
     formatter.add_text(parser.description)

@@ -28,8 +28,8 @@ HELP = (
     "was built in the repository)"
 )
 RECORD_HELP = (
-    f"record of another clone or package (its {RECORD}) that names the program: output says who says that it is "
-    f"proved, and is not sealed (default: ${ELSEWHERE})"
+    f"record of another clone or package (its {RECORD}) that calls the program proved: output names this record, and "
+    f"is not sealed (default: ${ELSEWHERE})"
 )
 AT_END: list[str] = []  # lines that a command says once it is done
 BUILDS = f"`./build` in streetsim's repository makes {BUILT}, in half an hour, and `./build --unproved` one without"

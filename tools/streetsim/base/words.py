@@ -218,8 +218,8 @@ def add_rounds(
         type=integer_within(0, MOST_ROUNDS),
         default=default,
         metavar="N",
-        help=f"runs made before the final run, by which those who give way right before left find gaps ({usual}; "
-        "0: nobody gives way there); with a map of an earlier version for all without a light",
+        help=f"runs made before the final run, which find the gaps for giving way right before left ({usual}; "
+        "0: nobody gives way there); with a map of an earlier version, the gaps at all junctions without a light",
     )
 
 

@@ -74,7 +74,7 @@ def check_page(args: argparse.Namespace) -> int:
     mismatches = page_mismatches(text, page_anew)
     note = ""
     if seal.content["tools"] != tools_sum():
-        note = "; the page names other tools than these" + (", so that words may differ, too" if mismatches else "")
+        note = "; the page names other tools than these" + (", so that options may differ, too" if mismatches else "")
     runs = sum(len(plan["seeds"]) for plan in seal.content["plans"])
     same_program = all(plan["program"] == program_digest(args.program) for plan in seal.content["plans"])
     program_text = "the program that made it" if same_program else "another program than the one that made it"

@@ -65,7 +65,7 @@ def refuse_run_words(plan: Json, target: str) -> None:
         refuse_other_words(run_words.parser(), plan[name], needed, without, target)
     parsed = run_words.parser().parse_args([*needed, *plan["words"]])
     if given_words(run_words.parser(), parsed, works) != plan["again"]:
-        raise Fault(f"{target}: the words of a run and those by which it is made again differ: it was changed")
+        raise Fault(f"{target}: the options of a run and those by which it is made again differ: it was changed")
 
 
 def remake_folder(args: argparse.Namespace, out_folder: str) -> str:

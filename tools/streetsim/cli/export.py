@@ -28,7 +28,7 @@ def parser() -> Parser:
     )
     tool_parser.add_argument("run", metavar="FOLDER", help="folder that streetsim-run wrote, or one with seeds")
     tool_parser.add_argument("-o", "--output", required=True, help="output file (.geojson, .gpkg, .xlsx)")
-    projection = "projection of a network that tells none: EPSG:25832, '+proj=utm +zone=32', .."
+    projection = "projection of a network that names none: EPSG:25832, '+proj=utm +zone=32', .."
     tool_parser.add_argument("--projection", help=projection)
     add_names(tool_parser)
     return tool_parser

@@ -35,7 +35,7 @@ def refuse_other_words(
     """Fault for words, as a page or folder keeps them, that given_words would not give of a parser: those that name a
     host, a program or a path (`without`), stand there twice, or ask for help. needed_words: those without which the
     parser takes none; target: for the Fault."""
-    message = f"{target}: what made it has words that the tools do not keep"
+    message = f"{target}: what made it has options that the tools do not keep"
     try:
         with contextlib.redirect_stdout(io.StringIO()):
             parsed_words = given_words(parser, parser.parse_args([*needed_words, *kept_words]), without)

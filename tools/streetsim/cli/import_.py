@@ -22,8 +22,8 @@ def parser() -> Parser:
     )
     tool_parser.add_argument(
         "-c", "--configuration", metavar="FILE",
-        help="SUMO's configuration in place of NET: its network, files, begin, end and seed, where no words give "
-        "others",
+        help="SUMO's configuration in place of NET: its network, files, begin, end and seed, unless other "
+        "options set them",
     )
     tool_parser.add_argument(
         "additional", nargs="*",
@@ -62,7 +62,7 @@ def add_options(tool_parser: argparse.ArgumentParser) -> None:
     tool_parser.add_argument(
         "--permissive", metavar="EDGE=SHARE",
         help="share of each permissive green in which vehicles may go: its last part, of surveyed approaches, with "
-        "commas between; all others go by who comes",
+        "commas between; at others vehicles take the gaps that there are",
     )
     add_drivers(tool_parser)
 
@@ -79,8 +79,8 @@ def add_drivers(tool_parser: argparse.ArgumentParser) -> None:
     )
     tool_parser.add_argument(
         "--drivers", metavar="FILE",
-        help="drivers that streetsim-calibrate fitted (drivers.json): dawdle, speed factors, cut and shares, if no "
-        "words give others",
+        help="drivers that streetsim-calibrate fitted (drivers.json): dawdle, speed factors, cut and shares, "
+        "unless other options set them",
     )
 
 

@@ -19,7 +19,7 @@ from streetsim.sumo.import_files import read_and_converted, write_run
 from streetsim.sumo.import_options import NUMBERS, Options
 from streetsim.sumo.types import CLASSES
 
-BY_WHO_COMES = "who gives way at a light goes by who comes; EDGE=SHARE keeps a survey's share"
+BY_GAPS = "vehicles give way at lights by the gaps that there are; EDGE=SHARE keeps a survey's share"
 
 
 def options_of(args: argparse.Namespace) -> Options:
@@ -43,7 +43,7 @@ def drivers_of(args: argparse.Namespace) -> Json:
     dawdle = next((share for share in (args.dawdle, file_drivers.dawdle) if share is not None), Options().dawdle)
     every, shares = shares_read(args.permissive or "", "--permissive")
     if every is not None:
-        print(f"--permissive {every:g} has no effect any more: {BY_WHO_COMES}", file=sys.stderr)
+        print(f"--permissive {every:g} has no effect any more: {BY_GAPS}", file=sys.stderr)
     cut = file_drivers.cut or 0.0
     if args.cut is not None:
         cut = number_within(args.cut, CUTS, "--cut")

@@ -41,7 +41,7 @@ def parser() -> Parser:
         ),
         description="Makes a junction, or a street of junctions, of a sheet: arms, lanes, counts and plans, as CSV or "
         "as a workbook. It writes SUMO's plain files and network (by netconvert), the demand, a run file for each plan "
-        "and a picture of what was understood. What is wrong in the sheet is told by cell.",
+        "and a picture of what was understood. Faults of the sheet are named by cell.",
     )
     tool_parser.add_argument("sheet", metavar="SHEET", nargs="?", help="sheet of a junction or a street (.csv, .xlsx)")
     tool_parser.add_argument(

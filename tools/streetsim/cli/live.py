@@ -14,7 +14,7 @@ def parser() -> Parser:
             "streetsim-live zero.jsonl --map zero.map.json --keep day --no-open",
         ),
         description="A page that runs a simulation: watch it, change signal plans, close lanes, take vehicles out, "
-        "read detectors; what was done is saved as lines. It is served on this machine alone until Ctrl-C.",
+        "read detectors; actions are saved as lines. The page is served on this machine alone until Ctrl-C.",
     )
     add_run(tool_parser)
     tool_parser.add_argument(
@@ -28,7 +28,8 @@ def parser() -> Parser:
     tool_parser.add_argument("--no-open", action="store_true", help="start no browser; the address is printed")
     tool_parser.add_argument(
         "--keep", metavar="FILE",
-        help="keep the session in this file, and the page's in FILE.page, and go on where it was left, whatever ended",
+        help="keep the session in this file, and the data of the page in FILE.page; after a crash the same command "
+        "goes on there",
     )
     add_departures(tool_parser, f"default: {LISTED}")
     add_rescue(tool_parser)

@@ -37,7 +37,7 @@ BY_SUMO = (
     "in oncoming traffic)"
 )
 ONLY_LANE = (
-    "(the only lane of its street: who comes meanwhile waits, as ways round it are found by streetsim-route --close)"
+    "(the only lane of its street: vehicles that come meanwhile wait; streetsim-route --close finds ways round it)"
 )
 PLAYED_SECONDS = 600  # seconds that the page plays
 SHORT_WORD = 40  # letters of a word of a command that stays on one line

@@ -21,7 +21,7 @@ def parser() -> Parser:
             "streetsim-route town.net.xml --trips town.rou.xml --close A_0:0-100:600-1800 -o round.rou.xml --out ways",
         ),
         description="Finds routes for trips by feedback between a router and runs, until nobody gains much by another "
-        "way, and tells by seeds that the search did not see how much that is.",
+        "way. Seeds that the search did not see judge how much that is.",
     )
     add_network(tool_parser)
     tool_parser.add_argument(
@@ -82,8 +82,8 @@ def add_works(tool_parser: argparse.ArgumentParser) -> None:
     """Adds the words that say what is closed, and who knows of it."""
     tool_parser.add_argument(
         "--close", action="extend", nargs="+", default=[], metavar="LANE:METRES-METRES:S-S",
-        help="road works that close a lane, as in streetsim-run; where all lanes of an edge are closed, those who know "
-        "of it take another way from their begin on, and the others turn off before it",
+        help="road works that close a lane, as in streetsim-run; if all lanes of an edge are closed, drivers who know "
+        "take another way from their begin on, and the others turn off before the edge",
     )
     tool_parser.add_argument(
         "--knowing", type=shares_of, metavar="SHARES",
@@ -91,8 +91,8 @@ def add_works(tool_parser: argparse.ArgumentParser) -> None:
     )
     tool_parser.add_argument(
         "--sign", nargs="+", default=[], metavar="EDGE",
-        help="edges where a sign tells of the works to drivers who did not know of them (default: the last before "
-        "them)",
+        help="edges with a sign about the works, for drivers who did not know of them (default: the last before "
+        "the works)",
     )
     add_lost(tool_parser)
     tool_parser.add_argument(

@@ -28,7 +28,7 @@ def parser() -> argparse.ArgumentParser:
             "streetsim-run zero.jsonl --map zero.map.json --until 4500 --seeds 1-5 --junctions 3600 --out zero-seeds",
         ),
         description="Runs a file that streetsim-import made, and writes counts, trips, queues, a summary "
-        "and what stood on the lanes.",
+        "and the vehicles on the lanes.",
     )
     add_run(tool_parser)
     add_looks(tool_parser)
@@ -83,8 +83,8 @@ def add_merge(tool_parser: argparse.ArgumentParser) -> None:
     """Adds the word that says how vehicles merge before road works."""
     tool_parser.add_argument(
         "--merge", choices=["turns", "none"], default="turns",
-        help="how vehicles merge where road works close one of the two lanes of a joint link: by turns, or (none) who "
-        "stands there waits for a gap (default %(default)s)",
+        help="how vehicles merge where road works close one of the two lanes of a joint link: by turns, or (none) a "
+        "vehicle that stands there waits for a gap (default %(default)s)",
     )
 
 
@@ -94,7 +94,7 @@ def add_lanes(tool_parser: argparse.ArgumentParser) -> None:
     tool_parser.add_argument(
         "--close", action="append", default=[], metavar="LANE:METRES-METRES:S-S",
         help="road works that close a lane: edge_index between two places (metres from the begin of the lane, as in "
-        "SUMO), from one time to another (S or HH:MM(:SS)); several with commas between, or by the word again",
+        "SUMO), from one time to another (S or HH:MM(:SS)); several with commas between, or by repeating the option",
     )
     add_merge(tool_parser)
     add_lost(tool_parser)
@@ -152,12 +152,12 @@ def add_outputs(tool_parser: argparse.ArgumentParser) -> None:
     tool_parser.add_argument(
         "--along", action="append", default=[], metavar="EDGES",
         help="also write travel times along a route of these edges, with spaces or commas between, from the stop line "
-        f"of the first to that of the last, {ROUTES_FILE}; several routes by the word again",
+        f"of the first to that of the last, {ROUTES_FILE}; repeat the option for several routes",
     )
     add_out(tool_parser, "output folder (default: NAME-run of NAME.jsonl; with --seeds NAME-seeds)")
     tool_parser.add_argument(
         "--keep", metavar="FILE",
-        help="keep the session in this file; the same words go on there after the machine has ended",
+        help="keep the session in this file; after a crash the same command goes on there",
     )
 
 

@@ -57,7 +57,7 @@ def run_by(args: argparse.Namespace, number_words: Sequence[str], again_words: S
         simulator, *more, polls=args.polls, along=along, again=again_setting, keep=args.keep, listed=listed
     )
     if args.keep:
-        note_kept(f"{args.keep}, the session: the same words go on there")
+        note_kept(f"{args.keep}, the session: the same command goes on there")
     if args.counted != "all":
         print("--counted has no effect any more: every lane is counted, in one run", file=sys.stderr)
     if args.seeds:

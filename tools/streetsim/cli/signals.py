@@ -18,7 +18,7 @@ def parser() -> Parser:
             "streetsim-signals zero.jsonl --plans corridor.net.xml.gz --until 4500 --vary splits,cycle --budget 200",
         ),
         description="Finds signal plans by simulation: cycles, splits and offsets under which trips are shorter. "
-        "The order of phases, yellow and all-red stay. What is found is a proposal to be checked. A terminal shows how "
+        "The order of phases, yellow and all-red stay. A found plan is a proposal to be checked. A terminal shows how "
         "far the search is; elsewhere each stage ends with a line on standard error.",
     )
     add_run(tool_parser)
@@ -60,14 +60,14 @@ def add_search(tool_parser: argparse.ArgumentParser) -> None:
         "--bounds", action="store_true",
         help="find bounds of the greens of actuated and NEMA lights in place of fixed plans: least, most and max-gap "
         "(vehext), "
-        "within which detectors drive them; the best fixed plan is found too, with the other words, and said "
-        "beside it",
+        "within which detectors drive them; the best fixed plan is found too, by the other options, and "
+        "printed beside it",
     )
     tool_parser.add_argument("--cycle", metavar="S-S", help=f"cycle lengths to try (default {CYCLES})")
     tool_parser.add_argument(
         "--least", type=integer_within(1, limits.PHASE_STEPS), metavar="S",
-        help=f"minimum green in seconds (default {LEAST_GREEN}); a phase's minDur and maxDur bound it too, but with "
-        "--bounds: there minDur is brought down to it, and without this word never below what is given",
+        help=f"minimum green in seconds (default {LEAST_GREEN}); minDur and maxDur of a phase bound it too. With "
+        "--bounds minDur is lowered to it, and without this option never below the given minDur",
     )
     tool_parser.add_argument(
         "--constraints", metavar="FILE",
@@ -89,8 +89,8 @@ def add_search(tool_parser: argparse.ArgumentParser) -> None:
     add_check(tool_parser, "101-110", "those of the report")
     tool_parser.add_argument(
         "--reserve", type=integer_within(0, 1000), default=RESERVE, metavar="N",
-        help="added chance to slow down in the runs of the search, of 1,000, so that what it finds has room "
-        "(default %(default)s: a green lets some 10 %% fewer pass; 0: as many). Offsets alone are searched without",
+        help="added chance to slow down in the runs of the search, of 1,000, so that a found plan has room "
+        "(default %(default)s: a green lets some 10 %% fewer pass; 0: as many); a search of offsets alone has none",
     )
     tool_parser.add_argument(
         "--budget", type=integer_within(0, limits.VEHICLES), default=1000, metavar="N",

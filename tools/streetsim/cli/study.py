@@ -29,7 +29,7 @@ def parser() -> Parser:
     tool_parser.add_argument(
         "--close-at", default="", metavar="TIMES",
         help="times at which works begin, with commas between (S or HH:MM(:SS)): each variant that closes lanes is run "
-        "at each of them, and what each costs is told (default: close_at of the variant, else as its works say)",
+        "at each of them, and the costs of each are reported (default: close_at of the variant, else as its works say)",
     )
     add_out(tool_parser, "output folder (default: NAME-answer of NAME.toml, here)")
     return tool_parser

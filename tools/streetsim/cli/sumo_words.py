@@ -19,7 +19,7 @@ OPTION_HELP = (
     ("-b, --begin TIME", "the time at which the run begins"),
     ("-e, --end TIME", "the time at which it ends; without effect under a client, as in SUMO"),
     ("--seed NUMBER", "seed of all random draws; equal seeds give equal runs"),
-    ("--random", "draws the seed, and tells it"),
+    ("--random", "draws the seed, and prints it"),
     ("--remote-port PORT", "serves TraCI's protocol at a port of the loopback address"),
     ("--num-clients NUMBER", "waits for so many clients, which tell their places by setOrder (1)"),
     ("--writes FOLDER", "files that clients name are written in this folder alone"),
@@ -33,16 +33,16 @@ OPTION_HELP = (
     ("--stop-output FILE", "a row for each stop that a vehicle has left"),
     ("--lanechange-output FILE", "each change of lanes"),
     ("--output-prefix TEXT", "stands before the name of each file that is written"),
-    ("-t, --duration-log.statistics", "tells the means of all trips at the end"),
-    ("-v, --verbose", "tells begin and end"),
-    ("-W, --no-warnings", "tells no warnings"),
+    ("-t, --duration-log.statistics", "prints the means of all trips at the end"),
+    ("-v, --verbose", "prints begin and end"),
+    ("-W, --no-warnings", "prints no warnings"),
     ("-l, --log FILE", "the file for warnings"),
     ("--ignore-route-errors", "leaves vehicles out whose route cannot be driven"),
     ("--rescue SECONDS", "takes out a vehicle that stood this long, in place of --time-to-teleport"),
     ("--rounds NUMBER", "runs made before the final run, by which vehicles give way right before left (2)"),
     *((f"--{name} ..", "as in streetsim-import") for name in sorted(IMPORTED - {"seed", "begin"})),
     *((f"--{name} ..", "as in streetsim-run") for name in RUN_OPTIONS),
-    ("-C, --save-configuration FILE", "writes the words as a configuration, and makes no run"),
+    ("-C, --save-configuration FILE", "writes the options as a configuration, and makes no run"),
     ("--check SCRIPT.py", "reads a script for TraCI, and says which of its calls are here"),
 )
 
@@ -57,7 +57,7 @@ def parser() -> argparse.ArgumentParser:
             "streetsim-sumo -n town.net.xml -r town.rou.xml --end 3600 --remote-port 8813",
         ),
         description="Takes SUMO's command line: runs to the end, or serves TraCI's protocol to scripts in any language",
-        epilog="SUMO's other words have no effect, which a line tells, or are refused by name (tools/PYTHON.md).\n"
+        epilog="SUMO's other options have no effect, as a line says, or are refused by name (tools/PYTHON.md).\n"
         "SUMO_BINARY=streetsim-sumo has scripts that ask sumolib.checkBinary('sumo') start it.",
     )
     for names, help_text in OPTION_HELP:

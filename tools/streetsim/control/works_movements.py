@@ -115,7 +115,7 @@ def what_those_do(lost: Lost, mapping: Map, how: str, searched: bool) -> str:
         time = "from which all may turn in the whole run" if lost.is_joint() else "for that time alone"
         return f"these are led from {beside}, {time} (--lost wait: they wait until the works end)"
     if how == "bar":
-        ways = "ways round are searched for those who come meanwhile"
+        ways = "ways round are searched for vehicles that come meanwhile"
         none = "with --lost bar these have no way, and wait until the works end; streetsim-route --close .. --lost bar"
         return ways if searched else f"{none} finds ways for them, and --lost lead leads them from the lane beside"
     return "these wait until the works end" + (", as no lane beside leads there" if how == "lead" else "")

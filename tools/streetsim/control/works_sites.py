@@ -290,7 +290,7 @@ def all_closed(run: Run, mapping: Map, shut: Shut) -> Iterator[str]:
             count = sum(not set(links).isdisjoint(line.command["plan"]) for line in run.enters)
             what = "its only lane is" if sum(len(mapping.links[link].lanes) for link in links) == 1 else "all lanes are"
             yield (
-                f"edge {edge}: {what} closed between {first:,} and {last:,} s; nobody takes another way, so who of the "
-                f"{count:,} vehicles through it comes meanwhile waits before the works "
+                f"edge {edge}: {what} closed between {first:,} and {last:,} s; nobody takes another way, so those "
+                f"of the {count:,} vehicles through it that come meanwhile wait before the works "
                 "(streetsim-route .. --close finds ways round)"
             )

@@ -210,5 +210,5 @@ def doubts_of(watched: Iterable[Watched], mapping: Map) -> Iterator[str]:
         if works.left_network is not None:
             yield (
                 f"the queue before the works on {name} left the network at {works.left_network:,} s: "
-                "who waits beyond is in no queue or delay"
+                "vehicles that wait beyond are in no queue or delay"
             )

@@ -235,8 +235,8 @@ def lines_of(fit_result: FitResult, day: FieldDay) -> Iterator[str]:
     for value, error in zip(fit_result.fitted_values, fit_result.errors, strict=True):
         street = f" of {value.street} km/h" if value.street else ""
         fitted = f"{value_in(fit_result.drivers, value):.3f} +- {error:.3f}"
-        yield f"{value.name}{street}: {fitted}, told by {data_behind(value, day)}"
+        yield f"{value.name}{street}: {fitted}, by {data_behind(value, day)}"
     for value in fit_result.untold:
-        yield f"{value.name}: not told by these data; it stays at {value_in(fit_result.drivers, value):.3f}"
+        yield f"{value.name}: these data do not determine it; it stays at {value_in(fit_result.drivers, value):.3f}"
     if not day.lanes:
         yield "saturation was not surveyed: dawdle and cut stay as they are, and capacity is not calibrated"

@@ -213,7 +213,7 @@ def values_table(calibration: Calibration) -> str:
     for fitted in fit_result.untold:
         name, known = value_name(fitted.name, fitted.street), f"{fitted.center:g}"
         cells = [name, f"{value_in(fit_result.drivers, fitted):.3f}", "", known]
-        rows.append([escape(text) for text in (*cells, "not told by these data", "")])
+        rows.append([escape(text) for text in (*cells, "not determined by these data", "")])
     if not day.lanes:
         rows.append(["dawdle, seconds cut", "as they are", "", "", "not surveyed: capacity is not calibrated", ""])
     head = ["value", "fitted", "standard error", "known before", "told by", "correlation"]

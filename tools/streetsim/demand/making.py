@@ -115,7 +115,7 @@ def print_few(ends_are_given: bool, is_run: bool) -> None:
     """Prints on standard error what is done with few counts where no word says it; ends_are_given: by --ends; is_run:
     whether runs judge the demand."""
     anywhere = "" if ends_are_given else ", trips begin and end on any edge, by the class of its street (--ends)"
-    runs = f"at most {FEW_RUNS} runs judge it (--runs)" if is_run else "no simulator is there to tell whether it locks"
+    runs = f"at most {FEW_RUNS} runs judge it (--runs)" if is_run else "no simulator is there to see whether it locks"
     print(f"few edges are counted: most vehicles are what is expected{anywhere}; {runs}", file=sys.stderr)
 
 

@@ -36,7 +36,7 @@ def refuse_twice(cells: Iterable[MatrixCell]) -> None:
     """Fault for two cells of one pair and class whose periods overlap."""
     for first, second in overlapping_pairs(cells, lambda cell: (cell.source, cell.target, cell.kind)):
         same_period = (first.begin, first.end) == (second.begin, second.end)
-        how = "a second time, as" if same_period else f"is told already until {first.end:,} s, by"
+        how = "a second time, as" if same_period else f"is given already until {first.end:,} s, by"
         raise Fault(f"{second.location}: {second.source} to {second.target} {how} {first.location}")
 
 

@@ -19,8 +19,8 @@ def claim_of(page_run: PageRun) -> str:
     sentences[-1] += " on this machine answers; the bridge and this page's script are tested, not proved."
     if page_run.givers:
         sentences.append(
-            "Without a light vehicles give way as in the run, in the gaps between those who go first; these were found "
-            "without the changes that are made here."
+            "Without a light vehicles give way as in the run, in the gaps between vehicles that go first; these were "
+            "found without the changes that are made here."
         )
     elif page_run.mapping.yields:
         sentences.append(

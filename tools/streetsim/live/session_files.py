@@ -60,7 +60,7 @@ class SessionFiles:
     def check_run(self, run: Run, digest: str) -> None:
         """Takes the page's changes by its notes; where the bridge ended while all was run anew, those of before or
         after, by whether the new session is in place. A note that was cut off is taken away, and what is left of
-        FILE.new. Fault where the file is of another run, or of this one with other words."""
+        FILE.new. Fault where the file is of another run, or of this one with other options."""
         self.notes.truncate(len(whole_lines(self.notes_path)))
         notes = read_notes(self.notes_path)
         digests = {note["run"] for note in notes if "run" in note}
@@ -68,7 +68,7 @@ class SessionFiles:
         if lines[:1] not in ([], [run.load.text.encode() + b"\n"]):
             raise Fault(f"{self.file}: line 1 is not of this run: it has another session")
         if (lines or digests) and digests != {digest}:
-            raise Fault(f"{self.file}: it has the session of another run, or of this one with other words")
+            raise Fault(f"{self.file}: it has the session of another run, or of this one with other options")
         if not digests:
             self.write_note("run", digest)
         self.changes = next((note["changes"] for note in reversed(notes) if "changes" in note), [])

@@ -34,7 +34,7 @@ def forecast_doubts(
     ]
     if lefts:
         told = first_few([full_lane.in_words() for full_lane in lefts], 3)
-        yield f"lefts that give way, which no survey told (streetsim-import --permissive EDGE=SHARE): {told}"
+        yield f"lefts that give way, without a survey (streetsim-import --permissive EDGE=SHARE): {told}"
     full = [full_lane for full_lane in variant_lanes.values() if full_lane.demand > NEARLY_FULL]
     if growth > GROWTH and full:
         told = first_few([full_lane.in_words() for full_lane in full], 3)

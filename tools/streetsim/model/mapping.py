@@ -234,7 +234,7 @@ def refuse_ways_outside(node_ways: Iterable[NodeWays], nodes: int, links: int) -
         is_known = 0 <= one.node < nodes and numbers <= {*range(len(one.ways))}
         are_there = (0 <= link < links and lane in (0, 1) and 0 <= to < links for link, lane, to in turns)
         if not is_known or not all(are_there):
-            raise ValueError("who gives way names what is not there")
+            raise ValueError("a rule of giving way names what is not there")
 
 
 def map_from(path: FilePath, content: Json) -> Map:

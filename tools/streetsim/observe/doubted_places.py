@@ -64,5 +64,5 @@ def doubts_of_works_seen(watched: Iterable[Watched], mapping: Map) -> Iterator[D
             why = f"{len(works.long):,} stood for more than {LONG} s in one cell"
             yield Doubt(OF_WORKS, "", edge, why, ADDED, "", "", *times, vehicles=len(works.long))
         if works.left_network is not None:
-            why = "the queue left the network: who waits beyond is in no queue or delay"
+            why = "the queue left the network: vehicles that wait beyond are in no queue or delay"
             yield Doubt(OF_WORKS, "", edge, why, QUEUES, "", "", works.left_network, times[1])

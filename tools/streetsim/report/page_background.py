@@ -22,12 +22,12 @@ ASSUMPTIONS = (
     "at a light, as seconds of their green are left out instead.",
     "Levels of service, A to F, are those of the Highway Capacity Manual 2010 by control delay; of a movement F too "
     "where v/c, its volume over its capacity, is above 1.",
-    "Capacity is what passed in the run, over the share of green seconds in which one that has stood is on the lane; "
-    "v/c is who wished to pass over it. So it has the saturation flow of the run's own queues, the gaps that one takes "
-    "who gives way at a light (3.5 s, and 3.0 s before one who rolls), and one that goes after a permissive green in "
-    "which it stood there. Lanes that are called nearly full by the demand, before a run has these tables, go by an "
-    "estimate as of shared lanes in that manual: gaps of 4.5 s, 2.5 s for each further vehicle, one vehicle as a "
-    "permissive green ends, and one in 2.0 s of green.",
+    "Capacity is the vehicles that passed in the run, over the share of green seconds in which a vehicle that has "
+    "stood is on the lane; v/c is the vehicles that wished to pass, over capacity. So capacity has the saturation "
+    "flow of the run's own queues, the gaps for giving way at a light (3.5 s, and 3.0 s before a vehicle that rolls), "
+    "and one vehicle after a permissive green in which it stood there. Lanes that are called nearly full by the "
+    "demand, before a run has these tables, go by an estimate as of shared lanes in that manual: gaps of 4.5 s, 2.5 s "
+    "for each further vehicle, one vehicle as a permissive green ends, and one in 2.0 s of green.",
     f"Queues are the backs of queues in each cycle of a signal. One that is {GAP_METRES} m shorter than its edge, the "
     "gap behind a vehicle, has filled it; it may reach on.",
     "Routes are given: nobody changes its route on the way.",

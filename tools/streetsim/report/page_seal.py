@@ -22,7 +22,8 @@ LARGEST = 5_000_000  # bytes of a packed file in the page; larger ones are in th
 MOST_BYTES = 1 << 28  # bytes to which all sealed files unpack
 BESIDE_SUFFIX = ".sealed.zip"  # after the page's name
 FORM = 3  # of the seal; that of streetsim 1.0.0 says nothing of it
-EARLIER = {2: "the tools up to commit da17d40c, in which who gives way at lights had fixed seconds"}  # forms: of whom
+# Earlier forms, and whose they are.
+EARLIER = {2: "the tools up to commit da17d40c, in which vehicles gave way at lights by fixed seconds"}
 SUM = re.compile("[0-9a-f]{64}")
 # What a seal says, by name with its type; and of each of "plans".
 CONTENT = {"form": int, "words": list, "plans": list, "tools": str, "files": dict, "beside": list}
@@ -60,9 +61,9 @@ class Seal:
         rows = [("how to check", escape(HOW_TO_CHECK)), ("what that shows", escape(WHAT_IT_SHOWS))]
         for plan in self.content["plans"]:
             words = " ".join(plan["words"]) or "none"
-            seeds = f"seeds {', '.join(map(str, plan['seeds']))}; words of streetsim-run: {words}"
+            seeds = f"seeds {', '.join(map(str, plan['seeds']))}; options of streetsim-run: {words}"
             rows.append((escape(plan["name"]), escape(seeds)))
-        rows.append(("words of the page", escape(" ".join(self.content["words"]) or "none")))
+        rows.append(("options of the page", escape(" ".join(self.content["words"]) or "none")))
         for name, known in sorted(self.content["files"].items()):
             place = f" (in {self.beside_name})" if name in self.content["beside"] else ""
             rows.append((escape(name), f"SHA-256 {known}{escape(place)}"))

@@ -338,7 +338,7 @@ def doubted(plans: Sequence[Runs], further_doubts: Sequence[str] = ()) -> str:
     rows = (row for runs in plans for row in runs.first_folder.mapping.warning_rows)
     if heavy := [*dict.fromkeys(row[1] for row in rows if row[0] == HEAVY)]:
         first = heavy[0] if len(heavy[0]) < LONG else heavy[0][: LONG - 3] + ".."
-        told = f"The import told {counted_noun(len(heavy), 'thing')} that may change results"
+        told = f"The import reported {counted_noun(len(heavy), 'thing')} that may change results"
         texts.append(f"{told} (appendix){'; the first' if len(heavy) > 1 else ''}: {first}.")
     texts.append("These are numbers of a simulation: the street may do otherwise, and nobody here changes the way.")
     return places_table(plans) + bullets(texts) + (errors_told() if len(plans) == 2 else "")

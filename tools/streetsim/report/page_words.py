@@ -79,7 +79,7 @@ def why(doubt: Doubt) -> str:
     if doubt.size > 1:
         share = f"{times_as_many(doubt.size)} wish to pass as can"
     elif doubt.size < NEARLY:
-        share = f"who turns here waits for gaps ({100 * doubt.size:.0f} % of what can pass)"
+        share = f"a vehicle that turns here waits for gaps ({100 * doubt.size:.0f} % of what can pass)"
     else:
         share = f"nearly as many wish to pass as can ({100 * doubt.size:.0f} %)"
     if doubt.kind != OF_WORKS:

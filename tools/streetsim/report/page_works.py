@@ -49,7 +49,7 @@ class SeenWorks:
         """How long all who passed waited there, in a sentence; runs: of which it is the mean."""
         delays = ((float(row["mean_delay_s"] or 0), int(row["vehicles"])) for own in self.rows.values() for row in own)
         hours = sum(delay * vehicles for delay, vehicles in delays) / 3600 / runs
-        return f"In all {hours:,.{1 if hours >= 1 else 2}f} vehicle-hours were lost by those who passed."
+        return f"In all {hours:,.{1 if hours >= 1 else 2}f} vehicle-hours were lost by vehicles that passed."
 
 
 def seen_in(runs: Runs) -> list[SeenWorks]:
@@ -184,8 +184,8 @@ def worst_told(runs: Runs, works: SeenWorks) -> list[str]:
         reach = f"it reaches the end of the network, {metres} m back, from {time_of_day(left)}"
         reach += in_worst(len(runs.folders))
         queue = f"Queue: {reach}; vehicles that wait beyond are not counted."
-    wait = f"Wait: in the worst time, {time_of_day(first)} to {time_of_day(last)}, one who passes the works waits "
-    wait += f"{delay(worst):.0f} s{minutes_told(delay(worst))}; {passing:,.0f} vehicles pass in all."
+    wait = f"Wait: in the worst time, {time_of_day(first)} to {time_of_day(last)}, a vehicle that passes the works "
+    wait += f"waits {delay(worst):.0f} s{minutes_told(delay(worst))}; {passing:,.0f} vehicles pass in all."
     calm = [period for period in works.rows if delay(works.rows[period]) < MINUTE]
     times = ", ".join(f"{time_of_day(begin)} to {time_of_day(end)}" for begin, end in spans_of(calm))
     none = f"One waits below a minute from {times} alone." if calm else "In no period one waits less than a minute."

@@ -62,7 +62,7 @@ def doubts(study: Study, name: str, outcomes: Sequence[Outcome]) -> Iterator[str
     vehicle_counts = map(len, due)
     early = [run for run, cars in zip(outcomes, vehicle_counts, strict=True) if run.end_reason and run.arrived < cars]
     if early:
-        yield f"{len(early):,} of {len(outcomes):,} runs ended before all had arrived, who count until then"
+        yield f"{len(early):,} of {len(outcomes):,} runs ended before all had arrived; the others count until then"
     yield from trust.works_doubts(variant.works, [(outcome.end, outcome.all_arrived_at) for outcome in outcomes])
     yield from in_runs([outcome.at_works for outcome in outcomes])
     yield from variant.doubts

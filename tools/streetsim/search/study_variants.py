@@ -300,7 +300,7 @@ def check_types(variant_label: str, merged: Json) -> None:
             raise Fault(f"{variant_label}: {key} = {merged[key]!r} is neither {choices[0]!r} nor {choices[1]!r}")
     check_priority(variant_label, merged)
     if "knowing" in merged and not (merged.get("route") and merged.get("close")):
-        why = "knowing is of who goes round works: close = [..] and route = true are needed too"
+        why = "knowing is of drivers that go round works: close = [..] and route = true are needed too"
         raise Fault(f"{variant_label}: {why}")
 
 

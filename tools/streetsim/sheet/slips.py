@@ -37,8 +37,8 @@ class Slips:
         shown = lines if len(lines) <= MOST_TOLD else lines[: MOST_TOLD - 1]
         print(*shown, sep="\n", file=sys.stderr)
         if more := len(lines) - len(shown):
-            print(f"{more} more slips, which are told when these are mended", file=sys.stderr)
-        raise Fault(f"{self.path}: {len(lines)} slip{'s' * (len(lines) > 1)}, told by cell above: nothing was written")
+            print(f"{more} more slips, which are named when these are mended", file=sys.stderr)
+        raise Fault(f"{self.path}: {len(lines)} slip{'s' * (len(lines) > 1)}, named by cell above: nothing was written")
 
     def number(self, cell: GridCell, bounds: tuple[float, float], unit: str, usual: float | None = None) -> float:
         """The value of a cell within bounds, in a unit that may stand behind it (empty: a bare number). Where it is

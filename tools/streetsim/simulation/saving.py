@@ -31,9 +31,9 @@ def digests_of(session: TraciSession) -> dict[str, str]:
     driven = [f"{controller.name} {controller.light.program}" for controller in session.driver.controllers]
     parts = {
         "another --lights": driven,
-        "another network, or of other words": [run.load.text],
+        "another network, or of other options": [run.load.text],
         "other routes": [*(line.text for line in session.of_file), *mapping.cars, json.dumps(mapping.kinds)],
-        "other additional files, or of other words": [line.text for line in (*run.first, *timed)],
+        "other additional files, or of other options": [line.text for line in (*run.first, *timed)],
     }
     return {text: sha256("\n".join(lines).encode()).hexdigest() for text, lines in parts.items()}
 

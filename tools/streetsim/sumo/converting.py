@@ -120,7 +120,7 @@ def refuse_over_limits(network: Network, load: str, names: Sequence[str]) -> Non
     if len(load) > limits.LINE:
         exceeded.append(f"a load line of {len(load):,} bytes, at most {limits.LINE:,}")
     if exceeded:
-        smaller = "streetsim-import --part EDGES|X,Y,X,Y takes a part, with those who drive through it"
+        smaller = "streetsim-import --part EDGES|X,Y,X,Y takes a part, with the vehicles that drive through it"
         raise Fault(f"too large for streetsim: {'; '.join(exceeded)}. Nothing was written: {smaller}")
 
 

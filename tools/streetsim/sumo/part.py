@@ -46,7 +46,7 @@ def with_part(
         f"a part of the network: {len(inside):,} of {len(net.edges):,} edges; {counts['whole']:,} vehicles stay "
         f"inside, {counts['cut']:,} are cut to their {len(part_vehicles) - counts['whole']:,} stays there "
         f"(called {CUT_NAME.format('NAME', 1)}, ..), {counts['out']:,} do not drive there",
-        advice="those who come from outside come as without traffic there: queues before the part are not known",
+        advice="vehicles from outside come as without traffic there: queues before the part are not known",
     )
     return part_net, sorted(part_vehicles, key=lambda vehicle: vehicle.depart)
 

@@ -256,7 +256,7 @@ def advice_on(reason: str) -> str:
     """What the user can do where stops are not made for a reason."""
     if reason == LEFT_OUT:
         return "--classes NAMES keeps lanes of other classes too"
-    return "who stands in others' way: streetsim-run --close, for as long"
+    return "a vehicle in others' way: streetsim-run --close, for as long"
 
 
 def called(stop: Stop) -> str:

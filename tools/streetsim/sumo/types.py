@@ -228,7 +228,8 @@ class Sizes:
         """Reports how many vehicles took which size, where some take more than a cell; types that no file tells; and
         vehicles that are too long for the most cells."""
         if self.types.unknown:
-            report.warn(f"vehicle types that no file tells are taken for cars: {first_few(sorted(self.types.unknown))}")
+            names = first_few(sorted(self.types.unknown))
+            report.warn(f"vehicle types that no file defines are taken for cars: {names}")
         if self.too_long:
             report.warn(
                 f"{self.too_long.total()} vehicles are longer than {limits.SIZE} cells of {limits.CELL_METRES} m and "

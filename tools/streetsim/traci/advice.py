@@ -10,7 +10,7 @@ ALONE = (
     "speeds follow the rules alone; slow a road by its limit in the network, and hold vehicles by a signal "
     "or a closed lane"
 )
-BESIDE = "who drives beside is not told by one call; lane.getLastStepVehicleIDs and vehicle.getLanePosition tell it"
+BESIDE = "no call names the vehicles beside; lane.getLastStepVehicleIDs and vehicle.getLanePosition show them"
 CONTEXT = (
     "it has no place around which vehicles are looked for; subscribe around a junction, an edge, a lane or a vehicle"
 )
@@ -57,7 +57,7 @@ SENTENCES = {
     r"Scale$": "the demand is the route files'; make the routes of the demand that is wanted",
     r"Nema": NEMA,
     r"onstraint|(Blocking|Rival|Priority)Vehicles": RAILWAYS,
-    r"Foes": "who gives way to whom is not told; the network's file has it",
+    r"Foes": "no call says which vehicle gives way; the network's file does",
     r"Friction": "all roads are dry; --dawdle changes how vehicles drive",
     r"lane\.setLength": "lanes are the network's; change them there and start again",
     r"Geo$": "degrees are not here; streetsim-export writes them",
@@ -66,7 +66,7 @@ SENTENCES = {
     ),
     r"\.add(Full|Legacy)$": "use vehicle.add",
     r"DrivingDistance2D": "use simulation.convertRoad and getDrivingDistance",
-    r"clearPending": "who waits departs when there is room; do not add whom you do not want",
+    r"clearPending": "a vehicle that waits departs when there is room; do not add vehicles that you do not want",
     r"\.override": "detectors say what they saw; keep other counts in the script",
     r"^(poi|polygon)\.": "shapes are not kept; the files have them",
     r"^inductionloop\.": "use getLastStepVehicleIDs, and vehicle.getLength for each",
