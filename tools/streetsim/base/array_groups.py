@@ -32,3 +32,14 @@ def rounded(numbers: Array, digits: int) -> Array:
     """Numbers rounded as Python does, to so many decimals."""
     values, places = np.unique(numbers, return_inverse=True)
     return np.array([round(value, digits) for value in values.tolist()], float)[places]
+
+
+def by_number(numbers: Array) -> Array:
+    """The order that sorts small numbers, equal ones as they stand: by 16 bits, for which NumPy has a radix sort."""
+    if not len(numbers):
+        return np.zeros(0, np.int64)
+    low = numbers - numbers.min()
+    order = np.argsort(low.astype(np.uint16), kind="stable")
+    if low.max() >= 1 << 16:
+        order = order[np.argsort((low[order] >> 16).astype(np.uint16), kind="stable")]
+    return order

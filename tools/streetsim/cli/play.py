@@ -10,7 +10,7 @@ from streetsim.cli.defaults import complete_outputs, stem_of
 from streetsim.cli.words import add_clock
 from streetsim.model.folder import read_folder
 from streetsim.model.rows import NAME as ROWS
-from streetsim.report.player import FOLDER, MOST_BYTES, Played, played
+from streetsim.report.player import FOLDER, MOST_BYTES, Played, packed_runs, played
 
 PACKING = 6  # how hard gzip tries: 9 takes four times as long for 3 % less
 
@@ -50,8 +50,7 @@ def main(arguments: list[str]) -> int:
     runs = [played_of(path, args) for path in args.folders]
     if len(runs) == 2 and runs[0].run["name"] == runs[1].run["name"]:
         runs[0].run["name"], runs[1].run["name"] = args.folders
-    text = f"[{','.join(run.text() for run in runs)}]"
-    packed = base64.b64encode(gzip.compress(text.encode(), PACKING, mtime=0)).decode()
+    packed = base64.b64encode(gzip.compress(packed_runs(runs), PACKING, mtime=0)).decode()
     if len(packed) > MOST_BYTES:
         raise Fault(f"{args.folders[0]}: {len(packed):,} bytes are too much for a page: choose --first and --last")
     page = (FOLDER / "player.html").read_text(encoding="utf-8").replace("@DATA@", packed)
@@ -59,7 +58,7 @@ def main(arguments: list[str]) -> int:
         page = page.replace(f"/*{name.upper()}*/", (FOLDER / f"{name}.js").read_text(encoding="utf-8"))
     with whole_file(args.output) as file:
         file.write(page)
-    print(f"{len(runs[0].frames):,} steps, {len(page.encode()):,} bytes")
+    print(f"{len(runs[0].run['clocks']):,} steps, {len(page.encode()):,} bytes")
     return 0
 
 
@@ -69,6 +68,6 @@ def played_of(path: str, args: argparse.Namespace) -> Played:
     if args.step and not folder.has_each_second():
         raise Fault(f"{path}: --step {args.step}: {ROWS} with each second is not there")
     run = played(folder, args.first, args.last, args.step)
-    if not run.frames:
+    if not run.run["clocks"]:
         raise Fault(f"{path}: nothing was polled from {args.first} to {args.last} s")
     return run

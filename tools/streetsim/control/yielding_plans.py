@@ -6,7 +6,7 @@ import heapq
 import json
 from bisect import bisect_right
 from collections import defaultdict
-from collections.abc import Iterable, Sequence
+from collections.abc import Iterable, Mapping, Sequence
 from dataclasses import dataclass, field
 from functools import lru_cache
 from itertools import compress, groupby
@@ -21,6 +21,7 @@ from streetsim.model.runs import Command, Line
 HELD_BACK, HELD_AT_BEGIN = 8, 3
 MOST_HELD, ROUNDED = 0.4, 2.0  # share of a green that is held back from its half on, at most; seconds of rounding
 MOST_LINES = 100  # of a plan that are kept
+MOST_SHOWN = 100  # columns of what nodes show that change at one clock that are kept
 Greens = tuple[tuple[bool, ...], ...]  # by phase and turn
 AS_PLANNED, CLOSED, OPENED = 0, 1, 2  # what a turn shows beside its plan
 
@@ -66,7 +67,9 @@ class NodePlan:
         self.giving = meets.any(axis=0)  # by place of a turn, whether it meets others in any phase
         self.greens = greens  # by phase and turn
         self.lines: dict[tuple[int, bytes], Line] = {}
+        self.heads: dict[int, tuple[Command, str]] = {}  # by offset the plan without phases, and the text of it
         self.shown_phases: dict[tuple[int, bytes], tuple[list[object], str]] = {}  # by place and by turn, as `greens`
+        self.texts = {name: json.dumps(name, separators=(",", ":")) for green in shown for name in green.union(self.names)}
 
     def phase_of(self, ways: Ways, lanes: Lanes, *rows: Array) -> ShownPhase:
         """A phase, by whether each turn is green, somebody may come by it, and it meets others."""
@@ -93,9 +96,12 @@ class NodePlan:
             mode = np.frombuffer(modes, np.int8)
             rows = (self.greens & (mode != CLOSED)) | (mode == OPENED)
             phases, texts = zip(*(self.shown_phase(at, row) for at, row in enumerate(rows)))
-            line = own_line({**self.command, "offset": offset, "phases": []})
-            text = line.text.replace('"phases":[]', f'"phases":[{",".join(texts)}]')
-            line = self.lines[offset, modes] = Line(line.number, text, {**line.command, "phases": [*phases]})
+            if offset not in self.heads:
+                own = own_line({**self.command, "offset": offset, "phases": []})
+                self.heads[offset] = own.command, own.text
+            command, text = self.heads[offset]
+            text = text.replace('"phases":[]', f'"phases":[{",".join(texts)}]')
+            line = self.lines[offset, modes] = Line(-1, text, {**command, "phases": [*phases]})
         return line
 
     def shown_phase(self, at: int, is_green: Array) -> tuple[list[object], str]:
@@ -104,9 +110,9 @@ class NodePlan:
         if key not in self.shown_phases:
             length, green = self.command["phases"][at]
             turns = {tuple(turn) for turn in green}.difference(self.names)
-            shown = turns.union(compress(self.names, is_green.tolist()))
-            phase: list[object] = [length, sorted([*turn] for turn in shown)]
-            self.shown_phases[key] = phase, json.dumps(phase, separators=(",", ":"))
+            shown = sorted(turns.union(compress(self.names, is_green.tolist())))
+            text = f"[{length},[{','.join([self.texts[turn] for turn in shown])}]]"
+            self.shown_phases[key] = [length, [[*turn] for turn in shown]], text
         return self.shown_phases[key]
 
 
@@ -182,9 +188,11 @@ class PlansInForce:
         self.changed = np.zeros(len(lanes.length), np.int32)  # by lane how many turns are not as planned
         # By lane the cell from which on one may pass the line in the next second, where some meet others.
         self.alert_cell = np.full(len(lanes.length), NO_CELL)
-        # Clock, node and number of the plan of the next phases, and of the next changes of lanes on which some meet
-        # others.
-        self.due: list[tuple[int, int, int]] = []
+        # By clock node and number of the plan of those whose next phase begins then; and these clocks.
+        self.due, self.due_clocks = defaultdict[int, list[tuple[int, int]]](list), list[int]()
+        # By phases that some nodes show their turns, these columns, and their lanes and cells.
+        self.columns_of: dict[tuple[ShownPhase, ...], tuple[Array, ...]] = {}
+        # Clock, node and number of the plan of the next changes of lanes on which some meet others.
         self.changes_due: list[tuple[int, int, int]] = []
         self.number: dict[int, int] = {}
 
@@ -201,31 +209,42 @@ class PlansInForce:
             self.set_mode(turn, AS_PLANNED)
         self.gives[plan.turns] = plan.giving
         self.number[node] = self.number.get(node, 0) + 1
-        for due in (self.due, self.changes_due):
-            heapq.heappush(due, (clock, node, self.number[node]))
+        self.add_due(clock, node)
+        heapq.heappush(self.changes_due, (clock, node, self.number[node]))
+
+    def add_due(self, clock: int, node: int) -> None:
+        """Notes that the next phase of a node's plan begins at a clock."""
+        if clock not in self.due:
+            heapq.heappush(self.due_clocks, clock)
+        self.due[clock].append((node, self.number[node]))
 
     def advance(self, clock: int) -> None:
         """Brings what is green to a clock."""
-        self.clock, changed = clock, list[tuple[NodePlan, ShownPhase]]()
-        while self.due and self.due[0][0] <= clock:
-            _, node, number = heapq.heappop(self.due)
+        self.clock, changed, due = clock, dict[int, ShownPhase](), list[tuple[int, int]]()
+        while self.due_clocks and self.due_clocks[0] <= clock:
+            due += self.due.pop(heapq.heappop(self.due_clocks))
+        for node, number in due:
             if number == self.number[node]:
                 plan = self.plans[node]
                 second = (clock + self.offsets[node]) % len(plan.by_second)
-                self.phase_of[node] = plan.by_second[second]
-                changed.append((plan, self.phase_of[node]))
+                changed[node] = self.phase_of[node] = plan.by_second[second]
                 if len(plan.phases) > 1:
-                    heapq.heappush(self.due, (clock + plan.seconds_left[second], node, number))
+                    self.add_due(clock + plan.seconds_left[second], node)
         if changed:
-            self.show_phases(*zip(*changed))
+            self.show_phases(changed)
 
-    def show_phases(self, plans: Sequence[NodePlan], phases: Sequence[ShownPhase]) -> None:
-        """Takes what some nodes show now, by their plans and the phases of these."""
-        turns = np.concatenate([plan.turns for plan in plans])
-        self.green[turns] = np.concatenate([phase.green_row for phase in phases])
-        self.meets[turns] = np.concatenate([phase.meets_row for phase in phases])
-        slots = np.concatenate([plan.slots for plan in plans])
-        self.alert_cell[slots] = np.concatenate([phase.alert_cells for phase in phases])
+    def show_phases(self, changed: Mapping[int, ShownPhase]) -> None:
+        """Takes what some nodes show now, by the phases of their plans."""
+        phases = tuple(changed.values())
+        if (columns := self.columns_of.get(phases)) is None:
+            plans = [self.plans[node] for node in changed]
+            parts = zip(*((plan.turns, one.green_row, one.meets_row) for plan, one in zip(plans, phases)))
+            lanes = zip(*((plan.slots, one.alert_cells) for plan, one in zip(plans, phases)))
+            if len(self.columns_of) >= MOST_SHOWN:
+                self.columns_of.clear()
+            columns = self.columns_of[phases] = tuple(map(np.concatenate, (*parts, *lanes)))
+        turns, green, meets, slots, alert_cells = columns
+        self.green[turns], self.meets[turns], self.alert_cell[slots] = green, meets, alert_cells
 
     def next_change(self) -> int:
         """The next clock at which the lanes change on which some meet others, as far as it is known."""

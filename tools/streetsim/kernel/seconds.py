@@ -6,6 +6,7 @@ from dataclasses import dataclass, field
 from functools import cached_property
 from typing import NamedTuple
 
+from streetsim.base.array_groups import by_number
 from streetsim.base.arrays import Array
 from streetsim.base.arrays import numpy as np
 from streetsim.base.limits import VEHICLES
@@ -167,14 +168,3 @@ def seconds_of(parts: Sequence[Blocks], previous: Seconds | None, clock: int, ve
             raise BadRecord(f"the record behind {clock:,} s has a vehicle that was not entered, or no lane")
     arrivals = Arrivals(second, arrived[0], arrived[1], arrived[3])
     return Seconds(clocks, first_rows, car, slot, cell, speed, arrivals, vehicles)
-
-
-def by_number(numbers: Array) -> Array:
-    """The order that sorts small numbers, equal ones as they stand: by 16 bits, for which NumPy has a radix sort."""
-    if not len(numbers):
-        return np.zeros(0, np.int64)
-    low = numbers - numbers.min()
-    order = np.argsort(low.astype(np.uint16), kind="stable")
-    if low.max() >= 1 << 16:
-        order = order[np.argsort((low[order] >> 16).astype(np.uint16), kind="stable")]
-    return order

@@ -95,7 +95,7 @@ def parts_of(
 ) -> Iterator[RowsPart]:
     """The parts of an open file, one after the other; Fault where it is cut off or no such file. path: for the Fault;
     every: looked at are clocks that are whole multiples of so many seconds, from a first to a last one, both
-    included."""
+    included; a part without one is given where it has closed stretches."""
     try:
         while head := file.read(HEAD.size):
             size, clock, seconds, stay_count, rows, closed = HEAD.unpack(head)
@@ -103,14 +103,17 @@ def parts_of(
                 raise TooMuch(f"has more than {MOST_ENTRIES:,} rows or seconds in one part")
             if len(packed_data := file.read(size)) < size:
                 raise ValueError("cut off")
+            clocks = np.arange(clock, clock + seconds)
+            is_looked_at = (clocks % every == 0) & (clocks >= first_clock) & (clocks <= last_clock)
+            if not (closed or is_looked_at.any()):
+                continue
             data = inflate(packed_data, 16 * (stay_count + closed) + 7 * rows)
             at, columns = 0, []
             for kinds, count in ((STAY_COLUMNS, stay_count), (ROW_COLUMNS, rows), (CLOSED_COLUMNS, closed)):
                 for kind in kinds:
                     columns.append(np.frombuffer(data, kind, count, at))
                     at += columns[-1].nbytes
-            clocks = np.arange(clock, clock + seconds)
-            yield part_of(clocks, columns, (clocks % every == 0) & (clocks >= first_clock) & (clocks <= last_clock))
+            yield part_of(clocks, columns, is_looked_at)
     except TooMuch as fault:
         raise Fault(f"{path}: {fault}") from None
     except (struct.error, zlib.error, ValueError):

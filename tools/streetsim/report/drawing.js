@@ -36,9 +36,6 @@ function greensOfPlan(plan, clock) {
   return plan.phases.find(([seconds]) => (left -= seconds) < 0)[1];
 }
 
-// The cells that a vehicle of a lane's reply covers: [rear, front].
-const covered = ([, cell, , size = 1]) => [Math.max(0, cell - size + 1), cell];
-
 function distance([x, y], [ax, ay], [bx, by]) {
   const size = (bx - ax) ** 2 + (by - ay) ** 2, share = size ? Math.max(0, Math.min(1, ((x - ax) * (bx - ax) + (y - ay) * (by - ay)) / size)) : 0;
   return Math.hypot(x - ax - share * (bx - ax), y - ay - share * (by - ay));

@@ -12,10 +12,25 @@ class Side {
     at("sides").append(element("div", { className: "side" }, this.canvas, name));
     this.scene = new Scene(this.canvas, run.links);
     this.plans = groupsOf(run.signals, plan => plan[1]);
+    // The rows of each clock, end to end, and where those of each begin.
+    this.begins = new Int32Array(run.clocks.length + 1);
+    for (const place of run.frame) this.begins[place + 1]++;
+    for (const place of run.clocks.keys()) this.begins[place + 1] += this.begins[place];
+    const next = this.begins.slice();
+    this.rows = new Int32Array(run.frame.length);
+    run.frame.forEach((place, row) => { this.rows[next[place]++] = row; });
   }
 
-  // The last frame that is not after a clock, else the first.
-  frameAt(clock) { return this.run.frames.findLast(frame => frame.clock <= clock) || this.run.frames[0]; }
+  // What stood there at the last clock of the page that is not after a clock, else the first: vehicles on cells, [link, lane, rear, front, speed], how many were in buffers, and closed stretches, [link, lane, first, last].
+  frameAt(clock) {
+    const { run } = this, place = Math.max(0, run.clocks.findLastIndex(one => one <= clock)), cars = [];
+    const rows = this.rows.subarray(this.begins[place], this.begins[place + 1]);
+    for (const row of rows) {
+      const cell = run.cell[row], slot = run.slot[row];
+      if (cell >= 0) cars.push([run.links[slot >> 1], slot & 1, Math.max(0, cell - run.size[row] + 1), cell, run.speed[row]]);
+    }
+    return { clock: run.clocks[place], cars, buffered: rows.length - cars.length, closed: run.closed.findLast(([from]) => from <= place)[1] };
+  }
 
   // Whether a link's signal shows it green; null where there is none.
   isGreen(link, clock) {
@@ -27,20 +42,16 @@ class Side {
 
   // What is shown, also for tests: clock, its text, the scale bar, the street pointed at, vehicles on cells, the cells that they cover, vehicles in buffers, standing, red stop lines, closed stretches.
   shown(now) {
-    const { clock, lanes } = this.frameAt(now), cars = lanes.flatMap(lane => lane[2]);
-    return { clock, time: clockText(clock), scale: metresText(this.scene.scaleMetres()), street: this.streetAt(pointed), vehicles: cars.length, covered: cars.map(covered).reduce((sum, [rear, front]) => sum + front - rear + 1, 0), buffered: lanes.reduce((sum, lane) => sum + lane[3].length, 0), standing: cars.filter(car => car[2] === 0).length,
-             red: this.run.links.filter((_, link) => this.isGreen(link, clock) === false).length, closed: lanes.reduce((sum, lane) => sum + lane[4].length, 0) };
+    const { clock, cars, buffered, closed } = this.frameAt(now);
+    return { clock, time: clockText(clock), scale: metresText(this.scene.scaleMetres()), street: this.streetAt(pointed), vehicles: cars.length, covered: cars.reduce((sum, [, , rear, front]) => sum + front - rear + 1, 0), buffered, standing: cars.filter(car => car[4] === 0).length,
+             red: this.run.links.filter((_, link) => this.isGreen(link, clock) === false).length, closed: closed.length };
   }
 
   draw(now) {
-    const { scene, run } = this, { clock, lanes } = this.frameAt(now), cars = [];
+    const { scene, run } = this, { clock, cars, closed } = this.frameAt(now);
     scene.clear();
     run.links.forEach(link => scene.drawLink(link));
-    for (const [number, lane, cells, , closed] of lanes) {
-      const link = run.links[number];
-      for (const [first, end] of closed) scene.drawCells(link, lane, first, end, "#000");
-      for (const car of cells) cars.push([link, lane, ...covered(car), car[2]]);
-    }
+    for (const [number, lane, first, end] of closed) scene.drawCells(run.links[number], lane, first, end, "#000");
     scene.drawCars(cars);
     run.links.forEach((link, number) => { const green = this.isGreen(number, clock); if (green !== null) scene.drawStopLine(link, green); });
     if (at("names").checked) scene.drawNames(run.links.filter(link => scene.isInView(link)), scene.drawJunctions(run.junctions));
@@ -154,9 +165,23 @@ function listen({ canvas, scene }) {
   canvas.onpointerleave = () => { pointed = null; draw(); };
 }
 
-unpack(at("data").textContent).then(answer => answer.json()).then(runs => {
+// The runs of a page: a line of JSON, and behind it the columns that each names, of each entry how much more it is than the one before.
+function runsOf(bytes) {
+  const end = bytes.indexOf(10), runs = JSON.parse(new TextDecoder().decode(bytes.subarray(0, end))), kinds = { 8: Int8Array, 16: Int16Array, 32: Int32Array };
+  let begin = end + 1;
+  for (const run of runs)
+    for (const [name, bits, count] of run.columns) {
+      const steps = new kinds[bits](bytes.slice(begin, begin += count * bits / 8).buffer);
+      let entry = 0;
+      run[name] = Int32Array.from(steps, step => entry += step);
+    }
+  return runs;
+}
+
+unpack(at("data").textContent).then(answer => answer.arrayBuffer()).then(buffer => {
+  const runs = runsOf(new Uint8Array(buffer));
   sides = runs.map((run, place) => new Side(run, runs.length > 1 ? place : null));
-  clocks = [...new Set(runs.flatMap(run => run.frames.map(frame => frame.clock)))].sort((a, b) => a - b);
+  clocks = [...new Set(runs.flatMap(run => run.clocks))].sort((a, b) => a - b);
   slider.max = clocks.length - 1;
   sides.forEach(listen);
   at("play").onclick = toggle;
