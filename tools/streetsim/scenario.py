@@ -12,7 +12,7 @@ from streetsim.kernel.loop import NEVER, Controller, Observer
 from streetsim.model import tables
 from streetsim.model.freeflow import Alone
 from streetsim.model.mapping import Place
-from streetsim.model.runs import Line, read_with_map
+from streetsim.model.runs import read_with_map
 from streetsim.observe.trips import End, seconds_at_stops, trip_rows
 from streetsim.simulation.calls import METRES, CallGroup, LaneCalls, SimulationCalls, StretchCalls, VehicleCalls
 from streetsim.simulation.detours import Detours
@@ -162,11 +162,10 @@ class Scenario(Running):
         """Rows as in trips.csv (tables.TRIPS), as they are at this clock, one for each vehicle."""
         fleet, dawdle = self.fleet, self.source.load.command.get("dawdle", 0) / 1000
         alone, stood, rescues = Alone(self.map, dawdle), seconds_at_stops(self.steering.stops()), self.steering.rescue
-        departures = zip(fleet.plans, fleet.departs, strict=True)
-        lines = (Line(0, "", {"plan": plan, "depart": depart}) for plan, depart in departures)
+        planned = zip(fleet.departs, map(len, fleet.plans), strict=True)
         delays = ((alone.trip(plan), stood[number], rescues.count[number]) for number, plan in enumerate(fleet.plans))
         ends = map(self.end_of, range(len(fleet.names)))
-        return list(trip_rows(zip(fleet.names, lines, ends, delays, strict=True)))
+        return list(trip_rows(zip(fleet.names, planned, ends, delays, strict=True)))
 
     def end_of(self, number: int) -> End:
         """How a vehicle ended, or where it is."""

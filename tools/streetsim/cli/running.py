@@ -71,7 +71,7 @@ def run_by(args: argparse.Namespace, number_words: Sequence[str], again_words: S
 
 def under_way(args: argparse.Namespace, run: Run, mapping: Map, settings: Settings, runs: int = 1) -> RunProgress:
     """The line on the terminal that says how far a run is, or several of it."""
-    departing = sum(line.command["depart"] < settings.until for line in run.enters)
+    departing = int((run.departs() < settings.until).sum())
     passes = 1 + args.rounds if mapping.yields else 1
     return RunProgress(run.start(), settings.until, departing, runs, passes)
 

@@ -21,7 +21,7 @@ USUAL = 7200  # seconds from the last departure to the first guess of the end
 def after_departures(run: Run, seconds: int = USUAL) -> int:
     """The clock so many seconds after a run's last departure, or after its start where that is later; the greatest
     clock at most."""
-    last = max((line.command["depart"] for line in run.enters), default=0)
+    last = int(run.departs().max(initial=0))
     return min(limits.CLOCK, max(last, run.start()) + seconds)
 
 

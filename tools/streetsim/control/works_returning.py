@@ -50,7 +50,7 @@ def doubt_of_turning(run: Run, mapping: Map, closures: Sequence[Closure]) -> Dou
 
 def last_coming(run: Run, begin: int) -> int:
     """The second behind the last departure, or behind a clock where that is later."""
-    return max([begin, *(line.command["depart"] for line in run.enters)]) + 1
+    return int(run.departs().max(initial=begin)) + 1
 
 
 def fork_behind(mapping: Map, edge: str) -> Fork:

@@ -82,7 +82,7 @@ def with_works(
 def while_vehicles_depart(run: Run, closures: Iterable[Closure]) -> list[Closure]:
     """The closures, of which those that last to the greatest clock, as nothing reopens them, end behind the run's last
     departure, so that vehicles an hour can be told of them; SHORT seconds after their begin at the earliest."""
-    last = max((line.command["depart"] for line in run.enters), default=0) + 1
+    last = int(run.departs().max(initial=0)) + 1
     return [replace(one, end=max(one.begin + SHORT, last)) if one.end == limits.CLOCK else one for one in closures]
 
 
@@ -287,7 +287,7 @@ def all_closed(run: Run, mapping: Map, shut: Shut) -> Iterator[str]:
         if all(link in shut for link in links):
             times = [time for link in links for time in shut[link]]
             first, last = min(first for first, _ in times), max(last for _, last in times)
-            count = sum(not set(links).isdisjoint(line.command["plan"]) for line in run.enters)
+            count = sum(not set(links).isdisjoint(plan) for plan in run.plans())
             what = "its only lane is" if sum(len(mapping.links[link].lanes) for link in links) == 1 else "all lanes are"
             yield (
                 f"edge {edge}: {what} closed between {first:,} and {last:,} s; nobody takes another way, so those "

@@ -2,12 +2,15 @@
 from __future__ import annotations
 
 import json
+from array import array
+from bisect import bisect_left
 from collections import defaultdict
 from collections.abc import Iterable, Sequence
 from functools import cached_property
 from typing import NamedTuple
 
 from streetsim.base import limits
+from streetsim.base.arrays import Array
 from streetsim.base.arrays import numpy as np
 from streetsim.base.client import Lane, Vehicle, read_reply
 from streetsim.base.files import Fault
@@ -98,9 +101,9 @@ class Kernel:
         return Plans(self.run, self.map)
 
     @cached_property
-    def departs(self) -> list[int]:
+    def departs(self) -> Array:
         """The clocks, rising, at which vehicles wish to depart."""
-        return sorted(line.command["depart"] for line in self.run.enters)
+        return np.sort(self.run.departs())
 
     def go(self, until: int) -> None:
         """Makes the whole run, from its load up to a clock, which a controller may move by `until`. Fault where a line
@@ -208,12 +211,12 @@ class Kernel:
     def enter_due(self, target: int) -> None:
         """Tells the program of the vehicles that depart before a clock, and of those before them in the file."""
         first_new, run = self.entered, self.run
-        while self.entered < len(run.enters) and run.least_departs[self.entered] < target:
-            self.entered += 1
+        self.entered = bisect_left(run.least_departs, target, first_new)
         if first_new < self.entered:
             lines = run.enters[first_new : self.entered]
             self.send_lines(lines)
-            sizes, plans = zip(*((line.command.get("size", 1), line.command["plan"]) for line in lines), strict=True)
+            sizes = [line.command.get("size", 1) for line in lines]
+            plans = [array("i", line.command["plan"]) for line in lines]
             self.vehicles.add(range(first_new, self.entered), sizes, plans)
 
     def reenter(self, car: int, command: Command) -> None:
@@ -265,7 +268,7 @@ class Kernel:
 
     def is_to_come(self, clock: int) -> bool:
         """Whether a vehicle of the file wishes to depart at a clock or later."""
-        return bool(self.departs) and self.departs[-1] >= clock
+        return len(self.departs) > 0 and bool(self.departs[-1] >= clock)
 
 
 class ClosedCells:

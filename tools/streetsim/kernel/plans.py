@@ -1,6 +1,5 @@
 """The plans of a run's vehicles as columns, with the seconds that a vehicle alone takes; `observe` reckons delays by
 them."""
-from itertools import chain
 
 from streetsim.base.arrays import Array
 from streetsim.base.arrays import numpy as np
@@ -17,11 +16,9 @@ class Plans:
 
     def __init__(self, run: Run, mapping: Map) -> None:
         """The plans of a run; each has a link at least."""
-        plans = [line.command["plan"] for line in run.enters]
-        self.lengths = np.fromiter(map(len, plans), np.int64, len(plans))
+        self.links, self.lengths = run.plan_columns()
         self.end_places = np.cumsum(self.lengths)
         self.first_places = self.end_places - self.lengths
-        self.links = np.fromiter(chain.from_iterable(plans), np.int32, int(self.lengths.sum()))
         alone, previous_links = Alone(mapping, run.load.command["dawdle"] / 1000), np.roll(self.links, 1)
         previous_links[self.first_places] = -1
         # By place the number of its pair of a link and the one before; by number the seconds.

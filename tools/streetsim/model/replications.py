@@ -56,7 +56,7 @@ def names_of(run: Run, mapping: Map) -> list[str]:
 
 def drawn_of(run: Run, mapping: Map, names: Sequence[str]) -> Draw:
     """The draw of a run by the seed of its load."""
-    departs = np.fromiter((line.command["depart"] for line in run.enters), np.int64, len(run.enters))
+    departs = run.departs()
     if not len(departs):
         return Draw(departs, departs, departs)
     keeps = np.array([bool(line) for line in bus_lines_of(mapping.kinds, len(names))])

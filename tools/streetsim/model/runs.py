@@ -1,13 +1,18 @@
 """Run files: lines of commands, in order. A line may say with "at" at which clock it is sent (streetsim ignores that
 field)."""
+from __future__ import annotations
+
 import json
+from array import array
 from collections.abc import Iterable, Iterator, Sequence
 from dataclasses import dataclass, field, replace
-from itertools import accumulate
+from itertools import accumulate, chain
 from sys import intern
-from typing import Any
+from typing import Any, overload
 
 from streetsim.base import limits
+from streetsim.base.arrays import Array
+from streetsim.base.arrays import numpy as np
 from streetsim.base.files import Fault, FilePath, open_text, reading
 from streetsim.base.unpacking import LINE, lines_of, refuse_crowded
 from streetsim.model.mapping import Map, read_map
@@ -17,8 +22,9 @@ MARK = "works"  # a field of lines that a tool made of --close, where they are k
 SPAN = ("link", "lane", "first", "last")
 NEEDED_FIELDS = {"enter": ("depart",), "close": SPAN, "reopen": SPAN, "signal": ("node",)}  # whole numbers, by command
 MAY_HAVE = ("at", "start", "dawdle")  # whole numbers too
-SHARED = {number: number for number in range(limits.LINKS)}  # one object for each link, for the plans of all vehicles
+ENTER = ("cmd", "plan", "lane", "depart")  # the fields of nearly all lines that enter vehicles; some have "size" too
 Command = dict[str, Any]
+AT_ONCE = 10_000  # lines of a file of the tools that are read together
 TimedCommand = tuple[int, Command]  # the clock at which a command is sent
 
 
@@ -31,6 +37,64 @@ class Line:
     command: Command
 
 
+class Enters(Sequence[Line]):
+    """The lines that enter vehicles, by the order of lines, kept as columns, as a day in a city has a million; each is
+    made where it is asked for."""
+
+    def __init__(self) -> None:
+        """None is there."""
+        self.departs, self.numbers, self.lanes, self.sizes = array("q"), array("i"), array("i"), array("i")  # size 0: none
+        self.links, self.plan_ends = array("i"), array("q", [0])  # the plans end to end
+        self.texts, self.text_ends = bytearray(), array("q", [0])
+        self.others: dict[int, Line] = {}  # by place those of other fields
+
+    def append(self, line: Line) -> None:
+        """Adds a line. OverflowError, and nothing is added, where its numbers are larger than any that is right."""
+        command, text = line.command, line.text.encode()
+        lane, size = command.get("lane"), command.get("size", 0)
+        is_usual = (*command,) in (ENTER, (*ENTER, "size")) and type(lane) is int and type(size) is int
+        plan, depart = array("i", command["plan"]), array("q", [command["depart"]])
+        lane_and_size = array("i", [lane, size] if is_usual else [0, 0])
+        if not is_usual or (size < 1 and "size" in command):
+            self.others[len(self)] = line
+        self.numbers.append(line.number)
+        self.departs += depart
+        self.lanes.append(lane_and_size[0])
+        self.sizes.append(lane_and_size[1])
+        self.links += plan
+        self.plan_ends.append(len(self.links))
+        self.texts += text
+        self.text_ends.append(len(self.texts))
+
+    def __len__(self) -> int:
+        """How many there are."""
+        return len(self.numbers)
+
+    @overload
+    def __getitem__(self, place: int) -> Line: ...
+    @overload
+    def __getitem__(self, place: slice) -> list[Line]: ...
+    def __getitem__(self, place: int | slice) -> Line | list[Line]:
+        """A line, or some."""
+        if isinstance(place, slice):
+            return [self.line(at) for at in range(*place.indices(len(self)))]
+        return self.line(range(len(self))[place])
+
+    def line(self, at: int) -> Line:
+        """The line at a place, from 0."""
+        if at in self.others:
+            return self.others[at]
+        text = self.texts[self.text_ends[at] : self.text_ends[at + 1]].decode()
+        command = dict(zip(ENTER, ("enter", self.plan(at).tolist(), self.lanes[at], self.departs[at]), strict=True))
+        if self.sizes[at]:
+            command["size"] = self.sizes[at]
+        return Line(self.numbers[at], text, command)
+
+    def plan(self, at: int) -> array[int]:
+        """The links of the vehicle at a place, from 0."""
+        return self.links[self.plan_ends[at] : self.plan_ends[at + 1]]
+
+
 @dataclass(slots=True)
 class Run:
     """A run as it is sent, by when each line goes."""
@@ -39,12 +103,32 @@ class Run:
     load: Line
     first: list[Line] = field(default_factory=list)  # sent after the load, before the first step
     timed: list[tuple[int, Line]] = field(default_factory=list)  # by clock
-    enters: list[Line] = field(default_factory=list)  # vehicles, by the order of lines
-    least_departs: list[int] = field(default_factory=list)  # by enter: of it and those after it in the file
+    enters: Sequence[Line] = field(default_factory=list)  # vehicles, by the order of lines
+    least_departs: Sequence[int] = field(default_factory=list)  # by enter: of it and those after it in the file
 
     def start(self) -> int:
         """The clock at its begin, which its load gives; 0 where it gives none."""
         return self.load.command.get("start", 0)
+
+    def departs(self) -> Array:
+        """By vehicle the clock at which it wishes to depart."""
+        if isinstance(self.enters, Enters):
+            return np.array(self.enters.departs, np.int64)
+        return np.fromiter((line.command["depart"] for line in self.enters), np.int64, len(self.enters))
+
+    def plans(self) -> Iterator[Sequence[int]]:
+        """By vehicle its links."""
+        if isinstance(self.enters, Enters):
+            return map(self.enters.plan, range(len(self.enters)))
+        return (line.command["plan"] for line in self.enters)
+
+    def plan_columns(self) -> tuple[Array, Array]:
+        """(the links of all vehicles, end to end; by vehicle how many are its own)."""
+        if isinstance(self.enters, Enters):
+            return np.array(self.enters.links, np.int32), np.diff(np.array(self.enters.plan_ends, np.int64))
+        plans = [line.command["plan"] for line in self.enters]
+        lengths = np.fromiter(map(len, plans), np.int64, len(plans))
+        return np.fromiter(chain.from_iterable(plans), np.int32, int(lengths.sum())), lengths
 
     def signals(self) -> list[TimedCommand]:
         """The signal plans of the run, (clock at which it is sent, command), in the order of sending."""
@@ -62,9 +146,14 @@ def read_own_run(path: FilePath) -> Run:
     """The run of a file that the tools have just written, which is not looked at further. Fault where it cannot be
     read."""
     with reading(path), open_text(path) as file:
-        texts = file.read().splitlines()
-        commands = json.loads(f"[{','.join(texts)}]")
-    return run_of(path, [Line(at, *both) for at, both in enumerate(zip(texts, commands, strict=True), 1)])
+        return run_of(path, own_lines(file.read().splitlines()))
+
+
+def own_lines(texts: Sequence[str]) -> Iterator[Line]:
+    """The lines of a file that the tools have just written."""
+    for begin in range(0, len(texts), AT_ONCE):
+        part = texts[begin : begin + AT_ONCE]
+        yield from map(Line, range(begin + 1, begin + len(part) + 1), part, json.loads(f"[{','.join(part)}]"))
 
 
 def read_with_map(run_path: FilePath, map_path: FilePath) -> tuple[Run, Map]:
@@ -95,27 +184,40 @@ def ends_of(run: Run, mapping: Map) -> Iterator[str]:
 
 def run_of_texts(path: FilePath, texts: Iterable[str]) -> Run:
     """The run of lines as texts, without blank ones. Fault where the first is no load, or `line_of` raises one."""
-    lines = [line_of(path, number, text) for number, text in enumerate(texts, 1) if text.strip()]
-    if not lines or lines[0].command["cmd"] != "load":
+    lines = (line_of(path, number, text) for number, text in enumerate(texts, 1) if text.strip())
+    first = next(lines, None)
+    if first is None or first.command["cmd"] != "load":
         raise Fault(f"{path}: the first line must be a load")
-    return run_of(path, lines)
+    return run_of(path, chain([first], lines))
 
 
-def run_of(path: FilePath, lines: Sequence[Line]) -> Run:
+def run_of(path: FilePath, lines: Iterable[Line]) -> Run:
     """The run of some lines, of which the first is the load; others may stand in any order. An "at" of an enter has no
     effect. path: of the file, kept for faults."""
-    run = Run(path, lines[0])
-    for line in lines[1:]:
+    left = iter(lines)
+    run = Run(path, next(left))
+    enters: Enters | list[Line] = Enters()
+    for line in left:
         if line.command["cmd"] == "enter":
-            run.enters.append(line)
+            try:
+                enters.append(line)
+            except OverflowError:  # the program refuses it
+                enters = [*enters, line]
         elif "at" in line.command:
             run.timed.append((line.command["at"], line if line.number > 0 else without_mark(line)))
         else:
             run.first.append(line)
     run.timed.sort(key=lambda pair: pair[0])
-    least: Iterator[int] = accumulate((line.command["depart"] for line in reversed(run.enters)), min)
-    run.least_departs = [*least][::-1]
+    run.enters, run.least_departs = enters, least_departs_of(enters)
     return run
+
+
+def least_departs_of(enters: Sequence[Line]) -> Sequence[int]:
+    """By enter the least departure of it and of those after it."""
+    if isinstance(enters, Enters):
+        return np.minimum.accumulate(np.array(enters.departs, np.int64)[::-1])[::-1]
+    least: Iterator[int] = accumulate((line.command["depart"] for line in reversed(enters)), min)
+    return [*least][::-1]
 
 
 def with_load(run: Run, **values: Any) -> Run:
@@ -161,8 +263,6 @@ def line_of(path: FilePath, number: int, text: str) -> Line:
         if kind == "enter":
             if {*map(type, command["plan"])} != {int}:
                 raise ValueError("plan is no list of whole numbers")
-            # The copy takes no more than its links, of which a list that has grown has some to spare.
-            command.update(cmd="enter", plan=[SHARED.get(link, link) for link in command["plan"]].copy())
     except (ValueError, KeyError, TypeError, AttributeError, RecursionError) as fault:
         raise Fault(f"{path}: line {number} is no command of a run: {fault}") from None
     return Line(0 if command.get(MARK) else number, text.strip(), command)

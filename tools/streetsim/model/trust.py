@@ -5,9 +5,9 @@ The marks are chosen, not measured: above them a run is of another town than the
 import json
 import re
 from collections import Counter
-from collections.abc import Iterable, Iterator, Mapping, Sequence
+from collections.abc import Collection, Iterable, Iterator, Mapping, Sequence
 from dataclasses import dataclass
-from itertools import pairwise
+from itertools import compress, pairwise
 from statistics import fmean
 
 from streetsim.base.files import whole_file
@@ -67,29 +67,34 @@ class TripsAtEnd:
         return f"{told}{of_these}, {fmean(self.to_date):.1f} s to date of {len(self.to_date):,} under way"
 
 
-def trips_at(clock: int, start: int, rows: Sequence[tuple]) -> TripsAtEnd:
+def trips_at(clock: int, start: int, rows: Collection[tuple]) -> TripsAtEnd:
     """The trips of a run at a clock, from rows for trips.csv: (id, depart, arrival or "", duration, free flow, ..).
     start: the clock at the run's begin."""
-    arrived = [row for row in rows if row[2] != ""]
-    under_way = [row for row in rows if row[2] == "" and row[1] < clock]
-    ends = [row[1] + float(row[4]) for row in under_way]
+    durations, to_date, ends, last_arrival = list[int](), list[int](), list[float](), start
+    for _, depart, arrival, duration, free, *_ in rows:
+        if arrival != "":
+            durations.append(duration)
+            last_arrival = max(last_arrival, arrival)
+        elif depart < clock:
+            to_date.append(clock - depart)
+            ends.append(depart + float(free))
     late = sum(end <= clock for end in ends)
     return TripsAtEnd(
         clock=clock,
         vehicles=len(rows),
-        durations=[row[3] for row in arrived],
-        to_date=[clock - row[1] for row in under_way],
-        due=late + len(arrived),
+        durations=durations,
+        to_date=to_date,
+        due=late + len(durations),
         late=late,
         long_due=sum(end + STANDSTILL_SECONDS <= clock for end in ends),
-        last_arrival=max((row[2] for row in arrived), default=start),
+        last_arrival=last_arrival,
     )
 
 
 def free_arrivals(run: Run, mapping: Map) -> list[float]:
     """The clocks, rising, at which vehicles would arrive, were nobody in their way and all lights green."""
     free_flow = FreeFlow(mapping, run.load.command["dawdle"] / 1000)
-    return sorted(line.command["depart"] + free_flow(line.command["plan"]) for line in run.enters)
+    return sorted(depart + free_flow(plan) for depart, plan in zip(run.departs().tolist(), run.plans(), strict=True))
 
 
 def missing_doubts(arrived: Mapping[str, float], due: float) -> list[str]:
@@ -176,9 +181,9 @@ def works_doubts(works: Iterable[tuple[str, int]], runs: Sequence[tuple[int, int
             yield f"{begin} met nobody{where}, as all vehicles had arrived by then"
 
 
-def plans_before(clock: int, run: Run) -> list[list[int]]:
+def plans_before(clock: int, run: Run) -> list[Sequence[int]]:
     """The plans (links) of the vehicles that wish to depart before a clock."""
-    return [line.command["plan"] for line in run.enters if line.command["depart"] < clock]
+    return [*compress(run.plans(), (run.departs() < clock).tolist())]
 
 
 def actuated_doubts(clock: int, run: Run, mapping: Map, lights: Sequence[str]) -> Iterator[str]:

@@ -158,7 +158,7 @@ class Crossed:
         self.passes, self.alone = PeriodSums(lanes), PeriodSums(lanes)  # by interval and lane
         self.lane_links = np.zeros(0, np.int64)  # SLOTS times the lane, and the link to which they go, each pair once
         planned, begins = PlanPlaces(self.movements, plans), passages.begins_under_way()
-        departs = np.array([line.command["depart"] for line in passages.kernel.run.enters], np.int64)
+        departs = passages.kernel.run.departs()
         for number, part in passages.ended_passages(interval, dwells_of):
             crossings = Crossings(planned, part, departs)
             note_first(begins, part)

@@ -102,8 +102,8 @@ class Junctions(Passages):
         known = [*doubts, *(replace(doubt, why=f"{doubt.why}{doubt.when_told()}") for doubt in found_by_parts)]
         tables, intervals = self.tables_by(self.interval, self.packed_intervals, dwells_of, known, cut_short)
         tables.write(folder, Names(mapping), intervals)
-        plans, messages = [line.command["plan"] for line in run.enters], []
-        if facing := junctions_with_facing_streets(mapping, plans, (self.until - self.kernel.start) / 3600):
+        messages = list[str]()
+        if facing := junctions_with_facing_streets(mapping, run.plans(), (self.until - self.kernel.start) / 3600):
             where = "where minor streets wait for each other"
             messages.append(f"junctions: delays are too small {where}: {first_few(facing)}")
         beyond, texts = queues_beyond_messages(sorted(tables.filled.intersection(cut_short)))

@@ -92,7 +92,7 @@ class Summary(Observer):
         """The counts, without vehicles that wish to depart then or later."""
         arrival = np.sort(self.trips.arrival[self.trips.arrival > 0])
         taken_out = np.sort([takeout.clock for takeout in self.kernel.vehicles.takeouts])
-        departs = np.array(self.kernel.departs, np.int64)
+        departs = self.kernel.departs
         for clock, cells, buffers in self.counts:
             arrived, out = int(np.searchsorted(arrival, clock, "right")), int(np.searchsorted(taken_out, clock))
             admitted = int(np.searchsorted(departs, clock)) + out

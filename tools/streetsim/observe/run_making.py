@@ -6,7 +6,7 @@ import contextlib
 import json
 import os
 from collections import defaultdict
-from collections.abc import Iterable, Iterator, Sequence
+from collections.abc import Collection, Iterable, Iterator, Sequence
 from dataclasses import asdict, dataclass, field, replace
 from functools import partial
 from heapq import merge
@@ -138,7 +138,7 @@ class RunTables:
         outputs = Outputs(files, self.mapping, dawdle, period, self.run.start(), rescued)
         return SumoFiles(blocks.enter_context(outputs), self.steering.buses)
 
-    def write(self, folder: str, trips: Sequence[Entry], clock: int) -> None:
+    def write(self, folder: str, trips: Collection[Entry], clock: int) -> None:
         """Writes the tables, but for those of junctions, to the folder of a run; those of phases, stops and works where
         there were any. trips: rows of trips.csv; clock: at the end."""
         run, mapping, names = self.run, self.mapping, Names(self.mapping)
@@ -206,7 +206,7 @@ def figures_of(
     if run_tables.junctions is not None:
         more, beyond, of_rows = run_tables.junctions.write(folder, stops, places)
         notes, places = [*notes, *more], of_rows
-    trips = list(run_tables.trips.rows(steering.rescue.count, stops))
+    trips = run_tables.trips.rows(steering.rescue.count, stops)
     run_tables.write(folder, trips, clock)
     driven, rescues = trust.trips_at(clock, run.start(), trips), steering.rescue.count.total()
     knots = knots_of(steering.rescue.rescued, mapping)
@@ -252,7 +252,7 @@ def summary_row(census: Census) -> Entry:
     return census.clock, census.admitted, census.waiting, census.cells, census.buffers, census.arrived, census.taken
 
 
-def class_trips_line(trips: Sequence[Entry], mapping: Map) -> str:
+def class_trips_line(trips: Collection[Entry], mapping: Map) -> str:
     """How many of each vehicle class arrived and their mean trip, as one line; empty where all vehicles are of one.
     trips: rows of trips.csv, in the order of the vehicles' numbers."""
     durations: defaultdict[str, list[int | None]] = defaultdict(list)

@@ -46,11 +46,10 @@ class Segments(Observer):
         numbers = {edge: number for number, edge in enumerate(self.edges)}
         self.edge_of = np.array([numbers[link.edge] for link in mapping.links], EDGE)
         self.log, self.noted_takeouts = Log(self.COLUMNS), 0  # noted_takeouts: that are in it
-        enters = kernel.run.enters
-        self.departs = np.fromiter((line.command["depart"] for line in enters), np.int32, len(enters))
+        self.departs = kernel.run.departs().astype(np.int32)
         # By vehicle, where its last segment ended.
-        self.since, self.line_before = self.departs.copy(), np.full(len(enters), NO_LINE, EDGE)
-        self.is_under_way = np.ones(len(enters), bool)  # or to depart, by vehicle
+        self.since, self.line_before = self.departs.copy(), np.full(len(self.departs), NO_LINE, EDGE)
+        self.is_under_way = np.ones(len(self.departs), bool)  # or to depart, by vehicle
 
     def see(self, seconds: Seconds) -> None:
         """Takes some seconds."""

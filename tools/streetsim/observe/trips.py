@@ -1,14 +1,15 @@
 """trips.csv and stops.csv: when each vehicle arrived, where the others are at the end, and what became of stops."""
+from __future__ import annotations
+
 from collections import Counter
-from collections.abc import Iterable, Iterator, Mapping
-from sys import intern
+from collections.abc import Collection, Iterable, Iterator, Mapping
 
 from streetsim.base.arrays import numpy as np
 from streetsim.control.bus_fleet import StopOutcome, dwells
 from streetsim.kernel.loop import Kernel, Observer
 from streetsim.kernel.seconds import Seconds
 from streetsim.model.mapping import Map
-from streetsim.model.runs import Line, Run
+from streetsim.model.runs import Run
 from streetsim.model.stops import bus_lines_of
 from streetsim.model.tables import Entry
 
@@ -36,12 +37,9 @@ class TripsTable(Observer):
         states = np.where(last_second.cell >= 0, "cell", "buffer").tolist()
         self.states = dict(zip(owner[last_second.car].tolist(), states, strict=True))
 
-    def rows(self, rescues: Mapping[int, int], stops: Iterable[StopOutcome]) -> Iterator[Entry]:
-        """The rows of trips.csv, as `trip_rows` gives them; rescues: by vehicle; stops: what became of them."""
-        run, alone = self.kernel.run, self.kernel.plans.alone_on_trips().tolist()
-        names, stood = vehicle_names(run, self.kernel.map), seconds_at_stops(stops)
-        extras = ((alone[at], stood[at], rescues.get(at, 0)) for at in range(len(alone)))
-        return trip_rows(zip(names, run.enters, self.ends(), extras, strict=True))
+    def rows(self, rescues: Mapping[int, int], stops: Iterable[StopOutcome]) -> TripRows:
+        """The rows of trips.csv; rescues: by vehicle; stops: what became of them."""
+        return TripRows(self, rescues, seconds_at_stops(stops))
 
     def ends(self) -> Iterator[End]:
         """How each vehicle ended."""
@@ -52,19 +50,44 @@ class TripsTable(Observer):
                 yield None, self.states.get(at, "waiting") if at < self.kernel.entered else "not departed"
 
 
-def trip_rows(trips: Iterable[tuple[str, Line, End, tuple[float, int, int]]]) -> Iterator[Entry]:
+class TripRows(Collection[Entry]):
+    """The rows of trips.csv, as `trip_rows` gives them, made anew each time, as a day has a million."""
+
+    def __init__(self, table: TripsTable, rescues: Mapping[int, int], stood: Mapping[int, int]) -> None:
+        """rescues, stood: by vehicle how many, and the seconds at its stops."""
+        run = table.kernel.run
+        self.table, self.rescues, self.stood = table, rescues, stood
+        self.names, self.departs = vehicle_names(run, table.kernel.map), run.departs()
+        self.alone, self.lengths = table.kernel.plans.alone_on_trips(), table.kernel.plans.lengths
+
+    def __iter__(self) -> Iterator[Entry]:
+        """All of them."""
+        get_rescues, get_stood = self.rescues.get, self.stood.get
+        extras = ((free, get_stood(at, 0), get_rescues(at, 0)) for at, free in enumerate(self.alone.tolist()))
+        planned = zip(self.departs.tolist(), self.lengths.tolist(), strict=True)
+        return trip_rows(zip(self.names, planned, self.table.ends(), extras, strict=True))
+
+    def __len__(self) -> int:
+        """How many there are."""
+        return len(self.names)
+
+    def __contains__(self, row: object) -> bool:
+        """Whether one is there."""
+        return any(row == other for other in self)
+
+
+def trip_rows(trips: Iterable[tuple[str, tuple[int, int], End, tuple[float, int, int]]]) -> Iterator[Entry]:
     """The rows of trips.csv, (name, wished departure, arrival, seconds, seconds alone, seconds lost, how many links its
     plan has, rescues, state), one for each vehicle, as in SUMO's tripinfo. A trip lasts from the wished departure to
     arrival; seconds lost are those beyond seconds alone and at its stops. Arrival, seconds and seconds lost are empty
-    where it has not arrived. Equal texts are one object, as a day has many. trips: name, enter line, end, and (seconds
-    alone, seconds at stops, rescues)."""
-    for name, line, (arrival, state), (free, stood, rescues) in trips:
-        depart = line.command["depart"]
-        alone = intern(f"{free:.1f}")
+    where it has not arrived. trips: name, (wished departure, how many links), end, and (seconds alone, seconds at
+    stops, rescues)."""
+    for name, (depart, links), (arrival, state), (free, stood, rescues) in trips:
+        alone = f"{free:.1f}"
         trip: Entry = ("", "", alone, "")
         if arrival is not None:
-            trip = arrival, arrival - depart, alone, intern(f"{arrival - depart - free - stood:.1f}")
-        yield (name, depart, *trip, len(line.command["plan"]), rescues, state)
+            trip = arrival, arrival - depart, alone, f"{arrival - depart - free - stood:.1f}"
+        yield (name, depart, *trip, links, rescues, state)
 
 
 def seconds_at_stops(stops: Iterable[StopOutcome]) -> Counter[int]:

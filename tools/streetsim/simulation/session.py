@@ -62,6 +62,7 @@ class TraciSession(Simulation, Doer):
         """As Simulation.start; nothing is done by a script."""
         self.types, self.deeds = TypesByVehicle(self.map), Deeds()
         self.of_file = list(self.source.enters)
+        self.source.enters = self.lines = list(self.of_file)
         self.pending: dict[int, tuple[int, Sequence[int]]] = {}  # by vehicle: a link, and other links after its end
         super().start()
         self.forget_steps()
@@ -75,7 +76,7 @@ class TraciSession(Simulation, Doer):
         """Has the run begin anew, and with it the output files. ProgramEnded where the program failed, Fault where a
         file cannot be written."""
         self.program.client.close()
-        self.source.enters[:] = self.of_file
+        self.source.enters = self.of_file
         self.start()
         if self.writer is not None:
             self.writer.discard()
@@ -269,7 +270,7 @@ class TraciSession(Simulation, Doer):
         """Has a vehicle that the program was not told of enter with another plan."""
         number, lane = self.fleet.numbers[name], self.connections.departure_lane(links)
         line = own_line({**self.fleet.enters[number], "plan": list(links), "lane": lane})
-        self.source.enters[number] = replace(self.of_file[number], text=line.text, command=line.command)
+        self.lines[number] = replace(self.of_file[number], text=line.text, command=line.command)
         self.fleet.enters[number], self.fleet.plans[number] = line.command, links
         self.steering.buses.let_go(number)
 
