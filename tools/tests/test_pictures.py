@@ -8,6 +8,8 @@ import subprocess
 import unittest
 from unittest import mock
 
+import numpy
+
 from support import DATA, MAP, PROGRAM, Case, needs_package, needs_simulator
 from streetsim.base.files import Fault
 from streetsim.model.folder import read_folder
@@ -249,6 +251,25 @@ class Player(Given):
                 "red": 0, "closed": 0,
             },
         )
+
+    def test_rows_are_those_of_the_polls(self):
+        """Of each clock the vehicles of its poll, as columns of steps, and the closed stretches from where they change
+        on."""
+        own, columns, begin = played(self.given, 0, 9), [], 0
+        for _, bits, count in own.run["columns"]:
+            columns.append(numpy.frombuffer(own.columns, f"<i{bits // 8}", count, begin).cumsum(dtype=int).tolist())
+            begin += count * bits // 8
+        wanted, closed = [], []
+        for frame, poll in enumerate(self.given.polls()):
+            for link, lane, cells, waiting, _ in poll["lanes"]:
+                slot = 2 * link + lane
+                wanted += [(frame, slot, cell, speed, *(size or [1])) for _, cell, speed, *size in cells]
+                wanted += [(frame, slot, -1 - place, 0, 1) for place in range(len(waiting))]
+            closed.append([[link, lane, *one] for link, lane, *_, shut in poll["lanes"] for one in shut])
+        self.assertEqual(begin, len(own.columns))
+        self.assertEqual(sorted(zip(*columns, strict=True)), sorted(wanted))
+        changes = dict(own.run["closed"])
+        self.assertEqual([changes[max(at for at in changes if at <= frame)] for frame in range(len(closed))], closed)
 
     def test_what_charts_show(self):
         """By hand, of the four polls; who has arrived is known where the summary has the clock."""

@@ -16,7 +16,7 @@ from streetsim.cli.open_page import lane_to_close
 from streetsim.cli.running import along_of, mean_trip_line
 from streetsim.model.folder import read_folder
 from streetsim.model.mapping import map_from
-from streetsim.model.runs import Line, read_run, read_with_map
+from streetsim.model.runs import Line, read_run, read_with_map, run_of_texts
 from streetsim.observe.run_making import first_poll
 from streetsim.scenario import Scenario
 from streetsim.simulation.connections import Connections
@@ -50,6 +50,25 @@ class Runs(Case):
 
 def enter(plan, depart=0):
     return {"cmd": "enter", "plan": plan, "lane": 0, "depart": depart}
+
+
+class EnterLines(unittest.TestCase):
+    def test_lines_stay_as_they_are(self):
+        """Usual ones, with a size, with further fields, in another order, of another kind of lane; and, as a plain
+        list, where a number is beyond any that is right."""
+        usual = [enter([0, 1], 7), {**enter([1], 4), "size": 2}, {**enter([1], 5), "size": 0}]
+        others = [{**enter([0], 6), "note": "a"}, {"cmd": "enter", "depart": 5, "lane": 1, "plan": [1]}]
+        kinds = [{**enter([0], 9), "lane": 1.5}, {"cmd": "enter", "plan": [0], "depart": 8}]
+        for more in ([], [enter([1 << 40], 2)], [enter([0], 1 << 70)]):
+            commands = [*usual, *more, *others, *kinds]
+            texts = [json.dumps({"cmd": "load", **NUMBERED}), *map(json.dumps, commands)]
+            run = run_of_texts("run.jsonl", texts)
+            self.assertEqual([[*line.command.items()] for line in run.enters], [[*one.items()] for one in commands])
+            self.assertEqual([(line.number, line.text) for line in run.enters[:]], [*enumerate(texts, 1)][1:])
+            self.assertEqual([[*plan] for plan in run.plans()], [one["plan"] for one in commands])
+            departs = [one["depart"] for one in commands]
+            self.assertEqual([*run.least_departs], [min(departs[at:]) for at in range(len(departs))])
+            self.assertEqual((run.enters[-1].command, len(run.enters)), (commands[-1], len(commands)))
 
 
 class Asked(Case):

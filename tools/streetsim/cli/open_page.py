@@ -7,14 +7,12 @@ import shlex
 import shutil
 import tempfile
 from collections.abc import Iterator, Sequence
-from contextlib import redirect_stdout
 from html import escape
-from io import StringIO
 from pathlib import Path
 from types import MappingProxyType
 
 from streetsim.base.files import Fault, whole_file
-from streetsim.cli.play import main as play
+from streetsim.cli.play import page_of, played_steps
 from streetsim.cli.report import DETAIL, interval_of
 from streetsim.model.folder import Folder
 from streetsim.model.sources import sources_of
@@ -96,11 +94,9 @@ def queues_html(folder: Folder) -> str:
 
 def player_html(folder: Folder, begin: int) -> str:
     """The player of PLAYED_SECONDS of a run from a clock on, in a frame, as HTML. Fault where nothing can be played."""
-    with tempfile.TemporaryDirectory() as temporary, redirect_stdout(StringIO()):
-        out = f"{temporary}/player.html"
-        smooth = ["--step", "1"] if folder.has_each_second() else []
-        play([folder.path, *smooth, "--first", str(begin), "--last", str(begin + PLAYED_SECONDS), "-o", out])
-        text = Path(out).read_text(encoding="utf-8")
+    step = 1 if folder.has_each_second() else None
+    text = page_of([played_steps(folder, begin, begin + PLAYED_SECONDS, step)], folder.path)
+    smooth = ["--step", str(step)] if step else []
     whole = f'<p class="small">Ten minutes of it; all: {command("streetsim-play", folder.path, *smooth)}.</p>'
     return FRAME.format(page=escape(text)) + whole
 
@@ -173,7 +169,7 @@ def lane_to_close(folder: Folder) -> tuple[str, float, bool]:
 def closing_times(folder: Folder) -> str:
     """About the middle half of the time in which vehicles depart, as --close takes it: round clock times, and of less
     than four minutes round seconds."""
-    departs = [int(row["depart"]) for row in folder.trips()] or [folder.setting.get("start", 0)]
+    departs = [*map(int, folder.trip_columns("depart")[0])] or [folder.setting.get("start", 0)]
     start, until = min(departs), min(max(departs), folder.setting.get("until", max(departs)))
     quarter = max(1, (until - start) // 4)
     step = next(step for step in ROUND_SECONDS if quarter >= step)

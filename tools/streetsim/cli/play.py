@@ -1,14 +1,14 @@
 """streetsim-play: one HTML file that plays what stood on the lanes."""
-import argparse
 import base64
 import gzip
+from collections.abc import Sequence
 
 from streetsim.base import limits
 from streetsim.base.files import Fault, whole_file
 from streetsim.base.words import Parser
 from streetsim.cli.defaults import complete_outputs, stem_of
 from streetsim.cli.words import add_clock
-from streetsim.model.folder import read_folder
+from streetsim.model.folder import Folder, read_folder
 from streetsim.model.rows import NAME as ROWS
 from streetsim.report.player import FOLDER, MOST_BYTES, Played, packed_runs, played
 
@@ -47,27 +47,33 @@ def main(arguments: list[str]) -> int:
     if len(args.folders) > 2:
         raise Fault("a page plays one run, or two side by side")
     complete_outputs(args, output=f"{stem_of(args.folders[0])}.play.html")
-    runs = [played_of(path, args) for path in args.folders]
+    runs = [played_steps(read_folder(path), args.first, args.last, args.step) for path in args.folders]
     if len(runs) == 2 and runs[0].run["name"] == runs[1].run["name"]:
         runs[0].run["name"], runs[1].run["name"] = args.folders
-    packed = base64.b64encode(gzip.compress(packed_runs(runs), PACKING, mtime=0)).decode()
-    if len(packed) > MOST_BYTES:
-        raise Fault(f"{args.folders[0]}: {len(packed):,} bytes are too much for a page: choose --first and --last")
-    page = (FOLDER / "player.html").read_text(encoding="utf-8").replace("@DATA@", packed)
-    for name in ("drawing", "charts", "player"):
-        page = page.replace(f"/*{name.upper()}*/", (FOLDER / f"{name}.js").read_text(encoding="utf-8"))
+    page = page_of(runs, args.folders[0])
     with whole_file(args.output) as file:
         file.write(page)
     print(f"{len(runs[0].run['clocks']):,} steps, {len(page.encode()):,} bytes")
     return 0
 
 
-def played_of(path: str, args: argparse.Namespace) -> Played:
-    """What is played of a folder, by the words of the command; Fault where it has no such seconds."""
-    folder = read_folder(path)
-    if args.step and not folder.has_each_second():
-        raise Fault(f"{path}: --step {args.step}: {ROWS} with each second is not there")
-    run = played(folder, args.first, args.last, args.step)
+def page_of(runs: Sequence[Played], path: str) -> str:
+    """The page that plays one run, or two; Fault, with the path of its folder, where that is too much for a page."""
+    packed = base64.b64encode(gzip.compress(packed_runs(runs), PACKING, mtime=0)).decode()
+    if len(packed) > MOST_BYTES:
+        raise Fault(f"{path}: {len(packed):,} bytes are too much for a page: choose --first and --last")
+    page = (FOLDER / "player.html").read_text(encoding="utf-8").replace("@DATA@", packed)
+    for name in ("drawing", "charts", "player"):
+        page = page.replace(f"/*{name.upper()}*/", (FOLDER / f"{name}.js").read_text(encoding="utf-8"))
+    return page
+
+
+def played_steps(folder: Folder, first_second: int, last_second: int, step: int | None) -> Played:
+    """What is played of a folder, from a first to a last second, by so many seconds, or by its polls; Fault where it
+    has no such seconds."""
+    if step and not folder.has_each_second():
+        raise Fault(f"{folder.path}: --step {step}: {ROWS} with each second is not there")
+    run = played(folder, first_second, last_second, step)
     if not run.run["clocks"]:
-        raise Fault(f"{path}: nothing was polled from {args.first} to {args.last} s")
+        raise Fault(f"{folder.path}: nothing was polled from {first_second} to {last_second} s")
     return run

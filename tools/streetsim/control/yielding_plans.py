@@ -51,10 +51,10 @@ class NodePlan:
         self.command, self.turns, self.names = command, np.array(turns), [ways.all[turn].name for turn in turns]
         self.slots = np.array(sorted({ways.all[turn].slot for turn in turns}))
         seconds = [length for length, _ in command["phases"]]
-        shown = [{tuple(turn) for turn in green} for _, green in command["phases"]]
+        shown_turns = [{tuple(turn) for turn in green} for _, green in command["phases"]]
         foes = [ways.all[turn].foes for turn in turns]
         goes_before = np.array([[foe in own for foe in turns] for own in foes], np.int64)
-        greens = np.array([[name in green for name in self.names] for green in shown], bool)
+        greens = np.array([[name in green for name in self.names] for green in shown_turns], bool)
         comes = np.array(who_may_come(tuple(map(tuple, greens.tolist())), tuple(seconds), goes_before.tobytes()))
         stops = np.array([ways.all[turn].always_stops for turn in turns], bool)
         meets = greens & ((comes.astype(np.int64) @ goes_before.T > 0) | stops)
@@ -69,7 +69,8 @@ class NodePlan:
         self.lines: dict[tuple[int, bytes], Line] = {}
         self.heads: dict[int, tuple[Command, str]] = {}  # by offset the plan without phases, and the text of it
         self.shown_phases: dict[tuple[int, bytes], tuple[list[object], str]] = {}  # by place and by turn, as `greens`
-        self.texts = {name: json.dumps(name, separators=(",", ":")) for green in shown for name in green.union(self.names)}
+        names = {*self.names}.union(*shown_turns)
+        self.texts = {name: json.dumps(name, separators=(",", ":")) for name in names}
 
     def phase_of(self, ways: Ways, lanes: Lanes, *rows: Array) -> ShownPhase:
         """A phase, by whether each turn is green, somebody may come by it, and it meets others."""

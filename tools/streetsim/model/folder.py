@@ -59,6 +59,10 @@ class Folder:
         """The rows of trips.csv (tables.TRIPS), in the order of the vehicles' numbers."""
         return tables.read_table(f"{self.path}/trips.csv", tables.TRIPS)
 
+    def trip_columns(self, *names: str) -> list[list[str]]:
+        """Some columns of trips.csv, as texts, by the vehicles' numbers."""
+        return tables.read_columns(f"{self.path}/trips.csv", tables.TRIPS, *names)
+
     def counts(self) -> list[dict[str, str]]:
         """The rows of counts.csv (tables.COUNTS)."""
         return tables.read_table(f"{self.path}/counts.csv", tables.COUNTS)

@@ -43,10 +43,11 @@ class Enters(Sequence[Line]):
 
     def __init__(self) -> None:
         """None is there."""
-        self.departs, self.numbers, self.lanes, self.sizes = array("q"), array("i"), array("i"), array("i")  # size 0: none
+        self.departs, self.numbers, self.lanes = array("q"), array("i"), array("i")
+        self.sizes = array("i")  # 0 where none is told
         self.links, self.plan_ends = array("i"), array("q", [0])  # the plans end to end
         self.texts, self.text_ends = bytearray(), array("q", [0])
-        self.others: dict[int, Line] = {}  # by place those of other fields
+        self.unusual_lines: dict[int, Line] = {}  # by place those of other fields
 
     def append(self, line: Line) -> None:
         """Adds a line. OverflowError, and nothing is added, where its numbers are larger than any that is right."""
@@ -56,7 +57,7 @@ class Enters(Sequence[Line]):
         plan, depart = array("i", command["plan"]), array("q", [command["depart"]])
         lane_and_size = array("i", [lane, size] if is_usual else [0, 0])
         if not is_usual or (size < 1 and "size" in command):
-            self.others[len(self)] = line
+            self.unusual_lines[len(self)] = line
         self.numbers.append(line.number)
         self.departs += depart
         self.lanes.append(lane_and_size[0])
@@ -77,22 +78,23 @@ class Enters(Sequence[Line]):
     def __getitem__(self, place: int | slice) -> Line | list[Line]:
         """A line, or some."""
         if isinstance(place, slice):
-            return [self.line(at) for at in range(*place.indices(len(self)))]
+            return [self.line(number) for number in range(*place.indices(len(self)))]
         return self.line(range(len(self))[place])
 
-    def line(self, at: int) -> Line:
-        """The line at a place, from 0."""
-        if at in self.others:
-            return self.others[at]
-        text = self.texts[self.text_ends[at] : self.text_ends[at + 1]].decode()
-        command = dict(zip(ENTER, ("enter", self.plan(at).tolist(), self.lanes[at], self.departs[at]), strict=True))
-        if self.sizes[at]:
-            command["size"] = self.sizes[at]
-        return Line(self.numbers[at], text, command)
+    def line(self, vehicle: int) -> Line:
+        """The line of a vehicle, by its number."""
+        if vehicle in self.unusual_lines:
+            return self.unusual_lines[vehicle]
+        text = self.texts[self.text_ends[vehicle] : self.text_ends[vehicle + 1]].decode()
+        values = "enter", self.plan(vehicle).tolist(), self.lanes[vehicle], self.departs[vehicle]
+        command: Command = dict(zip(ENTER, values, strict=True))
+        if self.sizes[vehicle]:
+            command["size"] = self.sizes[vehicle]
+        return Line(self.numbers[vehicle], text, command)
 
-    def plan(self, at: int) -> array[int]:
-        """The links of the vehicle at a place, from 0."""
-        return self.links[self.plan_ends[at] : self.plan_ends[at + 1]]
+    def plan(self, vehicle: int) -> array[int]:
+        """The links of a vehicle, by its number."""
+        return self.links[self.plan_ends[vehicle] : self.plan_ends[vehicle + 1]]
 
 
 @dataclass(slots=True)

@@ -153,23 +153,43 @@ def read_table(
     an earlier column is absent, more than half of them are, or one is there twice, and for a row that is shorter or
     longer, or has a text where a number belongs. wanted_texts: by column of those rows that are given, of all where it
     is empty."""
+    entries: list[dict[str, str]] = []
+    for names, absent, columns in table_parts(path, header):
+        rows: Iterable[tuple[str, ...]] = zip(*columns, strict=True)
+        if wanted_texts:
+            places = [(names.index(name), text) for name, text in wanted_texts.items()]
+            rows = (row for row in rows if all(row[place] == text for place, text in places))
+        lacking = dict.fromkeys(absent, "")
+        new = (dict(zip(names, row)) for row in rows)
+        entries += (lacking | row for row in new) if lacking else new
+    return entries
+
+
+def read_columns(path: FilePath, header: Sequence[str], *wanted: str) -> list[list[str]]:
+    """Some columns of a CSV table, as texts, empty ones where the table does not have them; Fault as of read_table."""
+    found: list[list[str]] = [[] for _ in wanted]
+    for names, _, columns in table_parts(path, header):
+        for texts, name in zip(found, wanted, strict=True):
+            texts += columns[names.index(name)] if name in names else [""] * len(columns[0])
+    return found
+
+
+def table_parts(
+    path: FilePath, header: Sequence[str]
+) -> Iterator[tuple[list[str], list[str], list[Sequence[str]]]]:
+    """(names of the columns that are there, of header those that are not, columns as texts without guards) of some rows
+    of a CSV table after the others; Fault as of read_table."""
     with reading(path), open_text(path) as file:
         rows = csv.reader(lines_of(file))
         names: list[str] = next(rows, [])
         absent = [name for name in header if name not in names]
         if absent != [*header[len(header) - len(absent) :]] or 2 * len(absent) > len(header) or has_twice(names):
             raise Fault(f"{path}: expected the columns {', '.join(header)}")
-        lacking = dict.fromkeys(absent, "")
-        places = [(names.index(name), text) for name, text in wanted_texts.items()]
         numbers = [place for place, name in enumerate(names) if name in header and name not in TEXTS]
-        entries: list[dict[str, str]] = []
         numbered = ((rows.line_num, row) for row in rows if row)
         while part := list(islice(numbered, AT_ONCE)):
             columns = checked_columns(path, names, numbers, part)
-            rows_there = zip(*map(texts_without_guards, columns), strict=True)
-            rows_wanted = (row for row in rows_there if all(row[place] == text for place, text in places))
-            entries += (lacking | dict(zip(names, row)) for row in rows_wanted)
-        return entries
+            yield names, absent, [texts_without_guards(column) for column in columns]
 
 
 def has_twice(names: Sequence[str]) -> bool:

@@ -18,8 +18,8 @@ FOLDER = Path(__file__).resolve().parent  # of the page's parts
 MOST_BYTES = 100_000_000  # of the packed data; browsers are slow with more
 
 
-# By row of a page what stood there: the place of its clock, its lane (twice the link, and the lane), the cell of its front,
-# below 0 in the buffer behind the lane, its speed in cells a second, and its size in cells.
+# By row of a page what stood there: the place of its clock, its lane (twice the link, and the lane), the cell of its
+# front, below 0 in the buffer behind the lane, its speed in cells a second, and its size in cells.
 COLUMNS = ("frame", "slot", "cell", "speed", "size")
 
 
@@ -77,8 +77,8 @@ def closed_changes(closed: Sequence[Stretches]) -> list[list[object]]:
 
 
 def player_data(folder: Folder, every: int, counts: Iterable[Sequence[int]]) -> Json:
-    """What the page plays of a run but for what stood there, as an object for json: "name" of the folder; "links", {"name",
-    "points" in metres, "lanes" and "cells": how many, "end": its node, "street": its name where it has one};
+    """What the page plays of a run but for what stood there, as an object for json: "name" of the folder; "links",
+    {"name", "points" in metres, "lanes" and "cells": how many, "end": its node, "street": its name where it has one};
     "junctions" with lights, [name, x, y]; "signals", [clock, node, offset, [[seconds, links that may go], ..]], of the
     whole run; "every": seconds between frames; and "chart", as of chart_points. Fault where they cannot be read."""
     names, mapping = Names(folder.mapping), folder.mapping

@@ -274,9 +274,8 @@ def middle_third(cells: int) -> tuple[int, int]:
 
 def arrival_curves(folder: Folder) -> tuple[list[int], list[int]]:
     """(clocks of wished departures up to the run's end, that second included, clocks of arrivals), each sorted."""
-    trips, end = folder.trips(), folder.setting.get("until", inf)
-    departs = sorted(depart for row in trips if (depart := int(row["depart"])) <= end)
-    return departs, sorted(int(row["arrival"]) for row in trips if row["arrival"])
+    (departs, arrivals), end = folder.trip_columns("depart", "arrival"), folder.setting.get("until", inf)
+    return sorted(clock for clock in map(int, departs) if clock <= end), sorted(map(int, filter(None, arrivals)))
 
 
 def curve_difference(curve: Sequence[float], other_curve: Sequence[float]) -> tuple[list[float], list[int]]:

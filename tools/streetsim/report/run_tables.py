@@ -84,7 +84,7 @@ class Runs:
     def departing(self, until: int) -> tuple[int, float]:
         """(the whole minute, in seconds, in which the first vehicle wishes to depart, how many do before a clock, in
         the mean over the seeds); (0, 0) where nobody does. until: the clock, seconds."""
-        clocks = [[int(row["depart"]) for row in folder.trips()] for folder in self.folders.values()]
+        clocks = [[*map(int, folder.trip_columns("depart")[0])] for folder in self.folders.values()]
         early = [[clock for clock in own if clock < until] for own in clocks]
         first = min((clock for own in early for clock in own), default=0)
         return first // 60 * 60, fmean(map(len, early))
@@ -101,7 +101,7 @@ class Runs:
     def mean_trips(self) -> dict[int, float]:
         """{seed: mean trip in seconds of those who arrived}; seeds in which nobody did are left out."""
         found = {
-            seed: [float(row["duration"]) for row in folder.trips() if row["duration"]]
+            seed: [float(seconds) for seconds in folder.trip_columns("duration")[0] if seconds]
             for seed, folder in self.folders.items()
         }
         return {seed: fmean(durations) for seed, durations in found.items() if durations}
