@@ -239,8 +239,8 @@ class HeldBack(unittest.TestCase):
 
     def test_a_long_pause_from_the_half_of_a_green_on(self):
         """As a right turn has that is slow: 21 s, 11 s of pause, 10 s; not two greens of unlike length."""
-        self.assertEqual(held_back([True, False, True, False], [21, 11, 10, 48]), [True, True, True, False])
-        self.assertEqual(held_back([True, False, True, False], [8, 11, 23, 48]), [True, False, True, False])
+        self.assertEqual(held_back((True, False, True, False), (21, 11, 10, 48)), (True, True, True, False))
+        self.assertEqual(held_back((True, False, True, False), (8, 11, 23, 48)), (True, False, True, False))
 
 
 class Full(unittest.TestCase):

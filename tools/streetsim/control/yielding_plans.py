@@ -22,6 +22,7 @@ HELD_BACK, HELD_AT_BEGIN = 8, 3
 MOST_HELD, ROUNDED = 0.4, 2.0  # share of a green that is held back from its half on, at most; seconds of rounding
 MOST_LINES = 100  # of a plan that are kept
 MOST_SHOWN = 100  # columns of what nodes show that change at one clock that are kept
+TEXT_OF = json.JSONEncoder(separators=(",", ":")).encode  # of a turn as a command has it
 Greens = tuple[tuple[bool, ...], ...]  # by phase and turn
 AS_PLANNED, CLOSED, OPENED = 0, 1, 2  # what a turn shows beside its plan
 
@@ -70,7 +71,7 @@ class NodePlan:
         self.heads: dict[int, tuple[Command, str]] = {}  # by offset the plan without phases, and the text of it
         self.shown_phases: dict[tuple[int, bytes], tuple[list[object], str]] = {}  # by place and by turn, as `greens`
         names = {*self.names}.union(*shown_turns)
-        self.texts = {name: json.dumps(name, separators=(",", ":")) for name in names}
+        self.texts = {name: TEXT_OF(name) for name in names}
 
     def phase_of(self, ways: Ways, lanes: Lanes, *rows: Array) -> ShownPhase:
         """A phase, by whether each turn is green, somebody may come by it, and it meets others."""
@@ -130,7 +131,7 @@ def with_held_back(greens: Array, seconds: Array, goes_before: Array) -> Array:
     """By phase and turn whether somebody may come by it: where it is green or held back, and in reds of HELD_AT_BEGIN
     before one, where a turn that gives way to it has begun. greens: by phase and turn; goes_before: by turn and another
     one 1 where that goes first, else 0."""
-    may_come = np.array([held_back(turn, seconds.tolist()) for turn in greens.T.tolist()]).T
+    may_come = np.array([held_back(tuple(turn), tuple(seconds.tolist())) for turn in greens.T.tolist()]).T
     is_short = (seconds <= HELD_AT_BEGIN)[:, None]
     begun = greens & ~np.roll(greens, 1, axis=0)
     begun |= greens & np.roll(begun & is_short, 1, axis=0)
@@ -140,11 +141,12 @@ def with_held_back(greens: Array, seconds: Array, goes_before: Array) -> Array:
     return may_come
 
 
-def held_back(greens: Sequence[bool], seconds: Sequence[int]) -> list[bool]:
+@lru_cache
+def held_back(greens: tuple[bool, ...], seconds: tuple[int, ...]) -> tuple[bool, ...]:
     """By phase whether a turn is green, or red for HELD_BACK seconds, or red from the half of a longer green on, as the
     import holds queues back. greens, seconds: by phase of a cycle."""
     if all(greens) or not any(greens):
-        return [*greens]
+        return greens
     begin = next(phase for phase in range(len(greens)) if greens[phase] and not greens[phase - 1])
     order = [(begin + phase) % len(greens) for phase in range(len(greens))]
     # Green and red by turns.
@@ -158,7 +160,7 @@ def held_back(greens: Sequence[bool], seconds: Sequence[int]) -> list[bool]:
         if not green and (red <= HELD_BACK or from_half):
             for phase in phases:
                 is_open[phase] = True
-    return is_open
+    return tuple(is_open)
 
 
 class PlansInForce:
