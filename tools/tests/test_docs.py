@@ -19,7 +19,8 @@ MEASURED = re.compile(r"bench/run ([a-z][a-z-]*|NAME)")
 FOREIGN = {"MSCFModel", "passingTime", "lefthand", "distributed", "comm", "tls", "listhc", "_tests"}
 # Files without names.
 PICTURES = (".png", ".gz")
-# First pages stay short: lines, and bytes, at most.
+# First pages stay short: words, lines, and bytes, at most.
+MOST_WORDS = {"README.md": 1_600}
 MOST_LINES = {"tools/README.md": 320}
 MOST_BYTES = {"docs/PROOFS.md": 26_000}
 
@@ -101,6 +102,8 @@ class Pages(Case):
         self.assertEqual([lost for page in pages(TOP) for lost in lost_names(page, words(TOP))], [])
 
     def test_first_pages_are_short(self):
+        for name, most in MOST_WORDS.items():
+            self.assertLessEqual(len((TOP / name).read_text(encoding="utf-8").split()), most, name)
         for name, most in MOST_LINES.items():
             self.assertLessEqual(len((TOP / name).read_text(encoding="utf-8").splitlines()), most, name)
         for name, most in MOST_BYTES.items():
