@@ -6,7 +6,7 @@ import json
 from array import array
 from collections.abc import Iterable, Iterator, Sequence
 from dataclasses import dataclass, field, replace
-from itertools import accumulate, chain
+from itertools import accumulate, chain, islice
 from sys import intern
 from typing import Any, overload
 
@@ -179,8 +179,7 @@ def ends_of(run: Run, mapping: Map) -> Iterator[str]:
     """For each vehicle that the map names a text, by which a map knows its run: the edges on which it begins and ends,
     with a blank between. Lanes, ways and departures may be changed by hand."""
     edges = {number: link.edge for number, link in enumerate(mapping.links)}
-    for line in run.enters[: len(mapping.cars)]:
-        plan = line.command["plan"]
+    for plan in islice(run.plans(), len(mapping.cars)):
         yield f"{edges.get(plan[0], '')} {edges.get(plan[-1], '')}"
 
 
