@@ -1,13 +1,13 @@
 -- What is known of when the first who wait depart.
-use Rattle.std.proofs.Common.{◌≡◌, ◌≢◌, ◌⊎◌, ℕ, zero, suc, ◌+◌, ◌*◌, ◌/◌, ◌<◌, ◌≤◌, List, [], ◌∷◌, length, get_or, set, replicate, Option, Some, None, refl, sym, ap, subst, ◌∙◌, inl, inr, arith, slice_get, filter_map}
+use Rattle.std.proofs.Common.{◌≡◌, ◌≢◌, ◌⊎◌, ℕ, zero, suc, ◌+◌, ◌*◌, ◌/◌, ◌<◌, ◌≤◌, List, [], ◌∷◌, length, get_or, set, replicate, Option, Some, refl, sym, ap, subst, ◌∙◌, inl, inr, arith, slice_get}
 use Rattle.std.proofs.lemmas.Bool.{cases_eq, cases_lt}
 use Rattle.std.proofs.lemmas.List.{length-set, get_or-set_same, get_or-set_other, get_or_past}
 use Rattle.street_base.specs.declared.car.Car.{Car}
 use Rattle.street_base.specs.Prelude.{LaneState, departed_lane}
 use Rattle.street_gap.specs.declared.closures.Stretch.{Stretch}
-use Rattle.street_yard.specs.Prelude.{Yard, list_at, list_on, Has, Away, IsWhole}
+use Rattle.street_yard.specs.Prelude.{Yard, Away, IsWhole}
 use Rattle.street_lanes.specs.declared.lanes.Extent.{Extent}
-use Rattle.street_lanes.specs.Prelude.{cells_list, buffer_list, waiting_list, cars_on, IsLaneOf, SameList, Touches, Packs, LaneView, LaneStands, HasNobodyWaiting, StaysAt, IsFirstDue, AreDue, IsFound, TakesOut}
+use Rattle.street_lanes.specs.Prelude.{cells_list, buffer_list, waiting_list, cars_on, IsLaneOf, Touches, Packs, LaneView, LaneStands, HasNobodyWaiting, StaysAt, IsFirstDue, AreDue, IsFound, TakesOut}
 use Rattle.street_lanes.specs.Inside.{lane_in}
 use Rattle.street_lanes.proofs.Cars.{cars-kept}
 use Rattle.street_lanes.proofs.PackLemmas.{cars-same}
@@ -19,10 +19,10 @@ first-again y new n d same due c is = due c (sym (ap (λ cs. slice_get cs 0) sam
 
 -- lists of those who wait are as they were
 pub due-kept : (ls : List ℕ) (y new : Yard) (lanes : ℕ) (due : List ℕ) → Touches ls y new → ((n : ℕ) → Away (waiting_list n) ls) → AreDue y lanes due → AreDue new lanes due
-due-kept ls y new lanes due t away are n h = first-again y new n (get_or due (n / 16) 0) (cars-kept y new (waiting_list n) (t.others (waiting_list n) (away n))) (are n h)
+due-kept ls y new lanes due t away are n h = first-again y new n (get_or due (n / 64) 0) (cars-kept y new (waiting_list n) (t.others (waiting_list n) (away n))) (are n h)
 
 pub due-packed : (y new : Yard) (lanes : ℕ) (due : List ℕ) → Packs y new → AreDue y lanes due → AreDue new lanes due
-due-packed y new lanes due packs are n h = first-again y new n (get_or due (n / 16) 0) (cars-same y new (waiting_list n) (packs.held (waiting_list n))) (are n h)
+due-packed y new lanes due packs are n h = first-again y new n (get_or due (n / 64) 0) (cars-same y new (waiting_list n) (packs.held (waiting_list n))) (are n h)
 
 zero-set : (due : List ℕ) (g : ℕ) → get_or (set due g 0) g 0 ≡ 0
 zero-set due g = elim (cases_lt g (length due)) as (λ _. get_or (set due g 0) g 0 ≡ 0) [
@@ -31,20 +31,20 @@ zero-set due g = elim (cases_lt g (length due)) as (λ _. get_or (set due g 0) g
 ]
 
 -- of a lane's group nothing is known any more
-pub due-forgot : (ls : List ℕ) (y new : Yard) (lanes lane : ℕ) (due : List ℕ) → Touches ls y new → ((n : ℕ) → n ≢ lane → Away (waiting_list n) ls) → AreDue y lanes due → AreDue new lanes (set due (lane / 16) 0)
-due-forgot ls y new lanes lane due t away are n h = elim (cases_eq (n / 16) (lane / 16)) as (λ _. IsFirstDue new n (get_or (set due (lane / 16) 0) (n / 16) 0)) [
-  | inl e ↦ (λ c is. subst (λ d. d ≤ c.step) (sym (ap (λ g. get_or (set due (lane / 16) 0) g 0) e ∙ zero-set due (lane / 16))) (omega arith))
-  | inr ne ↦ subst (IsFirstDue new n) (sym (get_or-set_other due (lane / 16) (n / 16) 0 0 ne)) (first-again y new n (get_or due (n / 16) 0) (cars-kept y new (waiting_list n) (t.others (waiting_list n) (away n (λ e. ne (ap (λ k. k / 16) e))))) (are n h))
+pub due-forgot : (ls : List ℕ) (y new : Yard) (lanes lane : ℕ) (due : List ℕ) → Touches ls y new → ((n : ℕ) → n ≢ lane → Away (waiting_list n) ls) → AreDue y lanes due → AreDue new lanes (set due (lane / 64) 0)
+due-forgot ls y new lanes lane due t away are n h = elim (cases_eq (n / 64) (lane / 64)) as (λ _. IsFirstDue new n (get_or (set due (lane / 64) 0) (n / 64) 0)) [
+  | inl e ↦ (λ c is. subst (λ d. d ≤ c.step) (sym (ap (λ g. get_or (set due (lane / 64) 0) g 0) e ∙ zero-set due (lane / 64))) (omega arith))
+  | inr ne ↦ subst (IsFirstDue new n) (sym (get_or-set_other due (lane / 64) (n / 64) 0 0 ne)) (first-again y new n (get_or due (n / 64) 0) (cars-kept y new (waiting_list n) (t.others (waiting_list n) (away n (λ e. ne (ap (λ k. k / 64) e))))) (are n h))
 ]
 
 -- a step that was found for a group
-pub due-found : (y : Yard) (lanes : ℕ) (due : List ℕ) (g least : ℕ) → ((n : ℕ) → 16 * g ≤ n → n < 16 * g + 16 → n < lanes → IsFirstDue y n least) → AreDue y lanes due → AreDue y lanes (set due g least)
-due-found y lanes due g least found are n h = elim (cases_eq (n / 16) g) as (λ _. IsFirstDue y n (get_or (set due g least) (n / 16) 0)) [
+pub due-found : (y : Yard) (lanes : ℕ) (due : List ℕ) (g least : ℕ) → ((n : ℕ) → 64 * g ≤ n → n < 64 * g + 64 → n < lanes → IsFirstDue y n least) → AreDue y lanes due → AreDue y lanes (set due g least)
+due-found y lanes due g least found are n h = elim (cases_eq (n / 64) g) as (λ _. IsFirstDue y n (get_or (set due g least) (n / 64) 0)) [
   | inl e ↦ subst (λ k. IsFirstDue y n (get_or (set due g least) k 0)) (sym e) (elim (cases_lt g (length due)) as (λ _. IsFirstDue y n (get_or (set due g least) g 0)) [
     | inl lt ↦ subst (IsFirstDue y n) (sym (get_or-set_same due g least 0 lt)) (found n (omega (arith, e)) (omega (arith, e)) h)
     | inr ge ↦ (λ c is. subst (λ d. d ≤ c.step) (sym (get_or_past (set due g least) g 0 (rw (length-set due g least) ge))) (omega arith))
   ])
-  | inr ne ↦ subst (IsFirstDue y n) (sym (get_or-set_other due g (n / 16) least 0 ne)) (are n h)
+  | inr ne ↦ subst (IsFirstDue y n) (sym (get_or-set_other due g (n / 64) least 0 ne)) (are n h)
 ]
 
 -- ---- which lists a call changes
@@ -93,11 +93,11 @@ zeros (suc count) zero = refl
 zeros (suc count) (suc k) = zeros count k
 
 pub due-fresh : (y : Yard) (lanes count : ℕ) (due : List ℕ) → due ≡ replicate count 0 → AreDue y lanes due
-due-fresh y lanes count due is n h c first = subst (λ d. d ≤ c.step) (sym (ap (λ ds. get_or ds (n / 16) 0) is ∙ zeros count (n / 16))) (omega arith)
+due-fresh y lanes count due is n h c first = subst (λ d. d ≤ c.step) (sym (ap (λ ds. get_or ds (n / 64) 0) is ∙ zeros count (n / 64))) (omega arith)
 
 -- ---- a lane whose group's step has not come
 
-pub quiet-stays : (y : Yard) (closures : List (List Stretch)) (extents : List Extent) (due : List ℕ) → AreDue y (length extents) due → (clock k : ℕ) → k < length extents → clock < get_or due (k / 16) 0
+pub quiet-stays : (y : Yard) (closures : List (List Stretch)) (extents : List Extent) (due : List ℕ) → AreDue y (length extents) due → (clock k : ℕ) → k < length extents → clock < get_or due (k / 64) 0
     → (s : LaneState) → IsLaneOf (lane_in y closures extents k) s → departed_lane clock s ≡ s
 quiet-stays y closures extents due are clock k h later s st = by (cars_on y (waiting_list k)) refl
   where

@@ -1,5 +1,5 @@
 -- The motion of one lane among those of a tile.
-use Rattle.std.proofs.Common.{◌≡◌, ℕ, ◌<◌, List, [], ◌∷◌, length, map, get_or, Option, None, refl, sym, ap, subst, ◌∙◌, All}
+use Rattle.std.proofs.Common.{◌≡◌, ℕ, ◌<◌, List, [], ◌∷◌, length, map, get_or, Option, sym, ap, subst, ◌∙◌, All}
 use Rattle.street_base.specs.declared.net.NetSpec.{NetSpec}
 use Rattle.street_base.specs.declared.names.Place.{Place}
 use Rattle.street_base.specs.Prelude.{SignalPlan, Traffic, LaneState, lane_at, drive_on, leaver_of, driven_lane}
@@ -7,13 +7,12 @@ use Rattle.street_rule.specs.Prelude.{Odds, watched, IsReady}
 use Rattle.street_gap.specs.declared.closures.Stretch.{Stretch}
 use Rattle.street_gap.specs.Prelude.{IsWithin}
 use Rattle.street_rule.specs.declared.watch.Watch.{Watch}
-use Rattle.street_yard.specs.Prelude.{Yard, list_at, first_or, IsWhole, IsLane as IsLaneOn}
+use Rattle.street_yard.specs.Prelude.{Yard, IsLane as IsLaneOn}
 use Rattle.street_lanes.specs.declared.lanes.Extent.{Extent}
 use Rattle.street_lanes.specs.Prelude.{LaneView, LaneStands, IsLaneOf, Lanes, lane_of, place_at, cells_list, buffer_list, lane_seen, IsStepOf, cells_on, arrived_car, MovesLane, DrivesAt}
 use Rattle.street_lanes.specs.declared.motion.ArrivedCar.{ArrivedCar}
 use Rattle.street_lanes.specs.Lanes.{IsOf}
 use Rattle.street_lanes.specs.Inside.{view_of, IsLaidOut}
-use Rattle.street_lanes.proofs.ListMotion.{MovesLane-nobody}
 use Rattle.street_lanes.proofs.Frames.{lanes-count, with-cells, with-buffer, frame-others, frame-same, frame-sound}
 use Rattle.street_lanes.proofs.Extents.{place-is, place-on, kept-is, falls-on, closed-on, falls-again, cells-seen}
 
@@ -78,9 +77,3 @@ module _ {x : Lanes} {y : Yard} {closures : List (List Stretch)} {extents : List
     DrivesAt-moved =
         subst (λ (v : Lanes). DrivesAt net signal step n v (view_of new closures extents dice) told before after) view_is
         (subst (λ (d : Odds). DrivesAt net signal step n seen (view_of new closures extents d) told before after) (sym same_dice) moved-seen)
-
-  -- where nobody is in its cells, all stays as it is
-  pub DrivesAt-nobody : (signal : Option SignalPlan) (step : ℕ) (ws : List Watch) → IsWhole y → ◌≡◌ {A = Option ℕ} None (first_or (list_at y (cells_list n)) None) → DrivesAt net signal step n x x None ws ws
-  DrivesAt-nobody signal step ws whole nobody =
-      subst (λ (v : Lanes). DrivesAt net signal step n x v None ws ws) view_is
-      (DrivesAt-moved y odds refl signal step None ws ws (MovesLane-nobody net signal step p closed n y (cells_list n) None ws refl whole lane-there nobody refl))

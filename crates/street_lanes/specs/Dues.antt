@@ -14,6 +14,6 @@ StaysAt clock x = (s : LaneState) → LaneStands x s → departed_lane clock s �
 abbrev pub IsFirstDue : Yard → ℕ → ℕ → Type 0
 IsFirstDue y n d = (c : Car) → slice_get (cars_on y (waiting_list n)) 0 ≡ Some c → d ≤ c.step
 
--- that of each of so many lanes the first who waits departs in the step that `due` has at n / 16 or later, 0 where it has none
+-- that of each of so many lanes the first who waits departs in the step that `due` has at n / 64 or later, 0 where it has none
 abbrev pub AreDue : Yard → ℕ → List ℕ → Type 0
-AreDue y lanes due = (n : ℕ) → n < lanes → IsFirstDue y n (slice_index_or due (n / 16) 0)
+AreDue y lanes due = (n : ℕ) → n < lanes → IsFirstDue y n (slice_index_or due (n / 64) 0)

@@ -1,5 +1,5 @@
 //! From which step on the first who wait on some lanes may depart, so that departures pass over lanes on which nobody does yet.
-//! `lanes.rt` keeps it for each 16 lanes; who comes to wait, departs or is taken out makes it unknown there.
+//! `lanes.rt` keeps it for each 64 lanes; who comes to wait, departs or is taken out makes it unknown there.
 ghost use Rattle.std.specs.Prelude.{◌≡◌, ℕ, ◌*◌, ◌/◌, ◌^◌, ◌<◌, ◌≤◌, length, slice_index_or, slice_set, true};
 ghost use Rattle.street_lanes.specs.Prelude.{lane_of, StaysAt, IsFirstDue, AreDue};
 
@@ -9,7 +9,7 @@ use street_base::Step;
 use street_yard::{ListKind, Yard};
 
 /// For so many lanes together one step is kept.
-const GROUP: usize = 16;
+const GROUP: usize = 64;
 
 /// The step kept of a group, 0 where none is kept.
 fn due_of(due: &Vec<Step>, group: usize) -> Step
@@ -32,7 +32,7 @@ fn set_due(due: &mut Vec<Step>, group: usize, step: Step)
 
 /// Nothing is known any more of the lanes of this one's group.
 pub(crate) fn forget(due: &mut Vec<Step>, lane: usize)
-    ensures { due.new.items ≡ slice_set due.old.items (lane / 16) 0 }
+    ensures { due.new.items ≡ slice_set due.old.items (lane / 64) 0 }
 {
     set_due(due, lane / GROUP, 0);
 }
@@ -72,7 +72,7 @@ fn find_dues(yard: &Yard, due: &mut Vec<Step>, lanes: usize, clock: Step)
 fn group_end(lane: usize) -> usize
     requires { lane < 2 ^ 32 }
     ensures later { lane < result }
-    ensures same { (k : ℕ) → lane ≤ k → k < result → k / 16 ≡ lane / 16 }
+    ensures same { (k : ℕ) → lane ≤ k → k < result → k / 64 ≡ lane / 64 }
 {
     lane / GROUP * GROUP + GROUP
 }
@@ -80,7 +80,7 @@ fn group_end(lane: usize) -> usize
 impl Lanes {
     /// Whether it is known of a lane, by its number on the tile, and of those of its group that nobody departs by the clock.
     fn is_quiet(&self, lane: usize, clock: Step) -> bool
-        ensures { result ≡ true → (k : ℕ) → k / 16 ≡ lane / 16 → k < length self.now.lanes → StaysAt clock (lane_of self.now k) }
+        ensures { result ≡ true → (k : ℕ) → k / 64 ≡ lane / 64 → k < length self.now.lanes → StaysAt clock (lane_of self.now k) }
     {
         if due_of(&self.due, lane / GROUP) > clock {
             return true;
@@ -90,6 +90,7 @@ impl Lanes {
 
     /// The first lane from `lane` on, by its number on the tile, on which somebody waits who may depart by the clock, as far as is
     /// known; the count of lanes where there is none. On the lanes before it nobody departs.
+    #[inline]
     pub fn next_to_depart(&self, lane: usize, clock: Step) -> usize
         requires { lane ≤ length self.now.lanes }
         ensures not_before { lane ≤ result }

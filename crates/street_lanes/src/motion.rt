@@ -181,9 +181,6 @@ impl Lanes {
         requires of { IsOf net.now self.old }
         ensures { DrivesAt net.now signal.now clock lane self.old self.new result [] [] }
     {
-        if self.yard.list_front(cells_list(lane)).is_none() {
-            return None;
-        }
         self.drive_cells(net, lane, clock, signal, &mut [])
     }
 
@@ -212,8 +209,8 @@ impl Lanes {
         }
     }
 
-    /// As [`drive`](Self::drive), seen by these watches. It stands apart from the look at the lane's list there, so that a lane
-    /// without vehicles and detectors costs no call.
+    /// As [`drive`](Self::drive), seen by these watches. A call of its own, as a phase with all of it in its loop takes more
+    /// instructions.
     #[inline(never)]
     fn drive_cells(
         &mut self,

@@ -25,7 +25,6 @@ mod Phases
 pub mod PlacesMeter
 mod EmptyTile
 mod MadeTiles
-mod WrittenList
 pub mod NumberOnce
 pub mod BetweenPhases
 pub mod Lent

@@ -4,7 +4,7 @@ unfoldable pub use Rattle.street_tile.specs.Commands.{at_place, planned, without
 pub use Rattle.street_tile.specs.Entries.{DepartAll, PlaceAll, PlacesAt}
 pub use Rattle.street_tile.specs.Halves.{Transfer, crossing, entries_to, entry_in, entry_on, let_go_lane, placed_lane, vehicle_in}
 unfoldable pub use Rattle.street_tile.specs.Halves.{let_go, placed}
-pub use Rattle.street_tile.specs.HandOvers.{Awaits, IsMoved, MovesLast, all_handed, all_places, moved_at, received}
+pub use Rattle.street_tile.specs.HandOvers.{AreMarked, Awaits, IsMoved, MovesLast, all_handed, all_places, moved_at, received}
 pub use Rattle.street_tile.specs.Hinted.{Hinted, KeepsHints}
 pub use Rattle.street_tile.specs.Motion.{DrivesLane, DrivesLanes, HasPlanFor, IsOfStep, MayDrive, ShowLanes, WatchLanes, WatchesLane}
 pub use Rattle.street_tile.specs.Parts.{DoesWork, MakesParts, MayRun, MayWork, Runs}

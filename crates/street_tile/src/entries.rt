@@ -32,8 +32,11 @@ fn place_comers(own: &mut Lanes, coming: &mut Comers)
     ensures none { coming.new ≡ map (λ c. None) coming.old }
     ensures lanes { PlaceAll coming.old own.old own.new }
 {
-    for n in 0..own.len() {
+    let count = own.len();
+    let mut n = coming.next(0);
+    while n < count {
         place_comer(own, n, coming.take(n));
+        n = coming.next(n + 1);
     }
 }
 

@@ -4,7 +4,7 @@
 //! Releases leave hand-overs with the tile of the lane that the vehicle left. The thread that calls for the step moves each to
 //! the tile of the lane that it enters ([`move_all`]), where it is among those who come ([`Comers`]) until the entries. In a
 //! step at most one goes to a lane, as the lane's mouth closes behind the first: so nobody is put over another.
-ghost use Rattle.std.specs.Prelude.{◌≡◌, ◌<◌, ◌≤◌, length, List, [], ◌∷◌, ◌++◌, Some, None, IfOk};
+ghost use Rattle.std.specs.Prelude.{◌≡◌, ℕ, ◌<◌, ◌≤◌, length, List, [], ◌∷◌, ◌++◌, Some, None, IfOk};
 ghost use Rattle.std.specs.Prelude.{option_to_list, map, replicate, true, slice_index_or, slice_set, All};
 ghost use Rattle.street_base.specs.Prelude.{vehicle_of, most_plan};
 ghost use Rattle.street_lanes.specs.Prelude.{IsLane};
@@ -16,6 +16,7 @@ use crate::{LinkHints, Tile};
 use std::alloc::{AllocError, Global};
 use std::marker::Model;
 use street_base::{Car, Place};
+use street_lanes::{FilledLists, ListKind};
 use street_net::{Network, slot};
 
 /// A vehicle that left a buffer, with the lane that it enters. It is on no lane meanwhile.
@@ -46,36 +47,40 @@ impl HandOver {
     }
 }
 
-/// For each own lane of a tile, by its number, who comes to it, or nobody. Mostly nobody does, and an entry of `by_lane` is wide: so
-/// `full` tells of each whether it holds somebody, and an empty one is not looked at. Contracts see the list `by_lane`.
+/// For each own lane of a tile, by its number, who comes to it, or nobody. Mostly nobody does, and entries look at no lane to which
+/// nobody comes. Contracts see the list `by_lane`.
 #[derive(Drop)]
 pub(crate) struct Comers {
     by_lane: Vec<Option<HandOver>>,
-    full: Vec<bool>,
+    // Of each lane's first list, by its number, whether somebody comes to the lane.
+    full: FilledLists,
 }
 
 impl Model for Comers {
-    ghost use Rattle.std.specs.Prelude.{◌≡◌, List, Option, map, is_some};
-    ghost use Rattle.street_tile.specs.Prelude.{Transfer};
+    ghost use Rattle.std.specs.Prelude.{List, Option};
+    ghost use Rattle.street_tile.specs.Prelude.{Transfer, AreMarked};
 
     ghost Value = { List (Option Transfer) };
 
     ghost view = { λ c. c.by_lane.items };
 
-    ghost invariant = { λ c. c.full.items ≡ map is_some c.by_lane.items };
+    ghost invariant = { λ c. AreMarked c.by_lane.items c.full };
 }
 
 impl Comers {
     /// Nobody comes to any of so many lanes.
     ///
     /// # Errors
-    /// Memory was refused.
+    /// Memory was refused, or three lists a lane are 2^32 lists or more.
     pub(crate) fn new(alloc: Global, lanes: usize) -> Result<Comers, AllocError>
         ensures { IfOk result (λ coming. coming ≡ replicate lanes None) }
     {
+        if lanes > u32::MAX as usize / 3 {
+            return Err(AllocError);
+        }
         Ok(Comers {
             by_lane: nones(alloc, lanes)?,
-            full: vec![in alloc; false; lanes]?,
+            full: FilledLists::new(alloc, 3 * lanes)?,
         })
     }
 
@@ -85,20 +90,33 @@ impl Comers {
         ensures { self.new ≡ slice_set self.old n (Some hand_over) }
     {
         self.by_lane[n] = Some(hand_over);
-        self.full[n] = true;
+        self.full.add(3 * n);
     }
 
-    /// Takes who comes to own lane `n`, to which nobody comes then. Where nobody does, nothing is written.
+    /// Takes who comes to own lane `n`, to which nobody comes then.
     pub(crate) fn take(&mut self, n: usize) -> Option<HandOver>
         requires { n < length self.old }
         ensures taken { result ≡ slice_index_or self.old n None }
         ensures nobody { self.new ≡ slice_set self.old n None }
     {
-        if !self.full[n] {
-            return None;
-        }
-        self.full[n] = false;
+        self.full.remove(3 * n);
         self.by_lane[n].take()
+    }
+
+    /// The first own lane, from `n` on, to which somebody comes; the count of lanes where nobody does. Nobody comes to the lanes
+    /// before it.
+    #[inline]
+    pub(crate) fn next(&self, n: usize) -> usize
+        requires { n ≤ length self.now }
+        ensures not_before { n ≤ result }
+        ensures within { result ≤ length self.now }
+        ensures passed { (k : ℕ) → n ≤ k → k < result → slice_index_or self.now k None ≡ None }
+    {
+        let count = self.by_lane.len();
+        match self.full.next(ListKind::Cells, n) {
+            Some(next) => next.min(count),
+            None => count,
+        }
     }
 }
 

@@ -1,4 +1,5 @@
 -- The names that contracts and proofs cite most, passed on from one place. Declares nothing.
+pub use Rattle.street_yard.specs.Bits.{IsNextBit, has_bit}
 pub use Rattle.street_yard.specs.Kinds.{class_of}
 pub use Rattle.street_yard.specs.Listed.{AllAbove, IsFalling, IsLane, cell_at, key_at, rear_at, seen_at, vehicle_with}
 unfoldable pub use Rattle.street_yard.specs.Listed.{cells_at}

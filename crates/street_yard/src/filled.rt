@@ -1,6 +1,6 @@
 //! Which lists have a key, a bit each, so that the next one that has is found without a look at each of them. The lists of one
 //! kind of 64 lanes have a word together, and the words of the three kinds of these lanes lie side by side. `list_table.rt`
-//! keeps it.
+//! keeps one, and `street_tile` one for those who come to lanes.
 ghost use Rattle.std.specs.Prelude.{◌≡◌, ◌^◌, ◌*◌, ◌<◌, ◌==◌, not, true, false, length, replicate, IfOk, slice_index_or, slice_set};
 
 use crate::names::ListKind;
@@ -9,7 +9,7 @@ use std::marker::Model;
 
 /// Which lists have a key, by their numbers.
 #[derive(Drop)]
-pub(crate) struct FilledLists {
+pub struct FilledLists {
     // Three words for each 64 lanes, one of each kind.
     words: Vec<u64>,
 }
@@ -34,7 +34,7 @@ impl FilledLists {
     ///
     /// # Errors
     /// Memory was refused.
-    pub(crate) fn new(alloc: Global, lists: usize) -> Result<Self, AllocError>
+    pub fn new(alloc: Global, lists: usize) -> Result<Self, AllocError>
         requires { lists < 2 ^ 32 }
         ensures many { IfOk result (λ f. lists < length f) }
         ensures none { IfOk result (λ f. f ≡ replicate (length f) false) }
@@ -61,7 +61,7 @@ impl FilledLists {
 
     /// Writes that a list has a key.
     #[inline]
-    fn add(&mut self, list: usize)
+    pub fn add(&mut self, list: usize)
         requires { list < length self.old }
         ensures { self.new ≡ slice_set self.old list true }
     {
@@ -71,7 +71,7 @@ impl FilledLists {
 
     /// Writes that a list has no key.
     #[inline]
-    fn remove(&mut self, list: usize)
+    pub fn remove(&mut self, list: usize)
         requires { list < length self.old }
         ensures { self.new ≡ slice_set self.old list false }
     {
@@ -81,7 +81,7 @@ impl FilledLists {
 
     /// The first lane, from `lane` on, whose list of this kind has a key; none where none has.
     #[inline]
-    pub(crate) fn next(&self, kind: ListKind, lane: usize) -> Option<usize>
+    pub fn next(&self, kind: ListKind, lane: usize) -> Option<usize>
         requires { 3 * lane < length self.now }
         ensures { IsNextBit self.now (class_of kind) lane result }
     {

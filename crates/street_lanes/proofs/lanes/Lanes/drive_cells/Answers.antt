@@ -22,6 +22,7 @@ invariant_of-self c = record {
   laid = moved-sound c.self.inside.dice c.args.lane c.self.view_is c.self.invariant.laid c.requires.lane c.requires.of c.index.ensures c.index-2.ensures
       c.drive_leg.new.yard c.drive_leg.new.dice c.drive_leg.ensures.dice c.args.signal.now c.args.clock c.drive_leg.result c.args.watches.now c.drive_leg.new.watches c.drive_leg.ensures.moves;
   due = due-kept (cells_list c.args.lane ∷ buffer_list c.args.lane ∷ []) c.self.inside.yard c.drive_leg.new.yard (length c.self.inside.extents.items) c.self.inside.due.items c.drive_leg.ensures.moves.touches (away-both c.args.lane) c.self.invariant.due;
+  none_closed = c.self.invariant.none_closed;
 }
 
 pub returns : goal.returns

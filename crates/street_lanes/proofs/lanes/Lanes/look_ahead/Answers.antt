@@ -8,4 +8,5 @@ invariant_of-self c =
     record {
       laid = c.self.invariant.laid;
       due = subst (λ k. AreDue c.self.inside.yard k c.find_dues.new.due.items) count (c.find_dues.ensures (subst (λ k. AreDue c.self.inside.yard k c.self.inside.due.items) (sym count) c.self.invariant.due));
+      none_closed = c.self.invariant.none_closed;
     }

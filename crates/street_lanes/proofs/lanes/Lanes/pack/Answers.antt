@@ -14,6 +14,7 @@ pub invariant_of-self : goal.invariant_of-self
 invariant_of-self c = record {
   laid = packed-sound c.self.inside.yard c.pack_lanes-self-inside.new.yard c.self.inside.closures.items c.self.inside.extents.items c.self.invariant.laid (packs c);
   due = due-packed c.self.inside.yard c.pack_lanes-self-inside.new.yard (length c.self.inside.extents.items) c.self.inside.due.items (packs c) c.self.invariant.due;
+  none_closed = c.self.invariant.none_closed;
 }
 
 pub returns : goal.returns
