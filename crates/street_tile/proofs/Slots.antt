@@ -2,14 +2,13 @@
 use Rattle.std.proofs.Common.{◌≡◌, ◌≢◌, ℕ, ◌+◌, ◌*◌, ◌<◌, ◌≤◌, Bool, true, false, List, length, map, set, get_or, replicate, refl, sym, ◌∙◌, subst, arith, inl, inr, Option, None}
 use Rattle.std.proofs.lemmas.Bool.{cases_eq, cases_lt, true≢false}
 use Rattle.std.proofs.lemmas.List.{length-set, length-map, length-replicate, ext_get_or, get_or-map, get_or-replicate, get_or_past, get_or-set_same, get_or-set_other}
-use Rattle.street_yard.specs.Prelude.{has_bit}
 use Rattle.street_tile.specs.Prelude.{Transfer, AreMarked}
 
 -- at first nobody comes to any lane
 pub marked-none : (lanes : ℕ) (bits : List Bool) → 3 * lanes < length bits → AreMarked (replicate lanes None) bits
 marked-none lanes bits many = record {
   many = rw length-replicate many;
-  nobody = λ n off. elim (cases_lt n lanes) as (λ _. get_or (replicate lanes None) n None ≡ None) [
+  nobody = λ n off. elim (cases_lt n lanes) as (λ _. get_or {A = Option Transfer} (replicate lanes None) n None ≡ None) [
     | inl lt ↦ get_or-replicate lanes n None None lt
     | inr ge ↦ get_or_past (replicate lanes None) n None (rw length-replicate ge)
   ];
@@ -26,15 +25,15 @@ module _ (cs : List (Option Transfer)) (bits : List Bool) (are : AreMarked cs bi
   bit-there = let many = are.many in omega (arith, many)
 
   -- the lanes but n are as they were
-  others : (x : Option Transfer) (b : Bool) (k : ℕ) → k ≢ n → has_bit (set bits (3 * n) b) 0 k ≡ false → get_or (set cs n x) k None ≡ None
-  others x b k ne off = get_or-set_other cs n k x None ne ∙ are.nobody k (sym (get_or-set_other bits (3 * n) (3 * k + 0) b false (λ e. ne (omega (arith, e)))) ∙ off)
+  others : (x : Option Transfer) (b : Bool) (k : ℕ) → k ≢ n → get_or (set bits (3 * n) b) (3 * k) false ≡ false → get_or (set cs n x) k None ≡ None
+  others x b k ne off = get_or-set_other cs n k x None ne ∙ are.nobody k (sym (get_or-set_other bits (3 * n) (3 * k) b false (λ e. ne (omega (arith, e)))) ∙ off)
 
   -- somebody comes to lane n
   pub marked-put : (x : Option Transfer) → AreMarked (set cs n x) (set bits (3 * n) true)
   marked-put x = record {
     many = rw (length-set, length-set) are.many;
     nobody = λ k off. elim (cases_eq k n) as (λ _. get_or (set cs n x) k None ≡ None) [
-      | inl e ↦ absurd (true≢false (sym (get_or-set_same bits (3 * n) true false bit-there) ∙ subst (λ l. get_or (set bits (3 * n) true) l false ≡ false) (omega (arith, e)) off))
+      | inl e ↦ absurd (true≢false (sym (get_or-set_same bits (3 * n) true false bit-there) ∙ subst (λ j. get_or (set bits (3 * n) true) (3 * j) false ≡ false) e off))
       | inr ne ↦ others x true k ne off
     ];
   }
@@ -81,7 +80,7 @@ taken-over old k l now le nobody t = record {
   rest = λ j above. t.rest j (omega arith);
 }
 
-none : Option Transfer → Option Transfer
+abbrev none : Option Transfer → Option Transfer
 none c = None
 
 pub taken-all : (old : List (Option Transfer)) (k : ℕ) (now : List (Option Transfer)) → length old ≤ k → TakenTo old k now → now ≡ map (λ c. None) old

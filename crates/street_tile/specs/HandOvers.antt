@@ -3,12 +3,11 @@ use Rattle.std.specs.Prelude.{◌≡◌, ℕ, ◌*◌, ◌<◌, ◌==◌, Bool, 
 use Rattle.street_base.specs.declared.names.Place.{Place}
 use Rattle.street_tile.specs.Halves.{Transfer, entry_in}
 use Rattle.street_tile.specs.Tiles.{TileView}
-use Rattle.street_yard.specs.Prelude.{has_bit}
 
 -- that there is a bit for each of these lanes, of its first list, and that nobody comes to a lane whose bit is not set
 pub record AreMarked (by_lane : List (Option Transfer)) (bits : List Bool) : Type 0 where
   pub many : 3 * length by_lane < length bits
-  pub nobody : (n : ℕ) → has_bit bits 0 n ≡ false → slice_index_or by_lane n None ≡ None
+  pub nobody : (n : ℕ) → slice_index_or bits (3 * n) false ≡ false → slice_index_or by_lane n None ≡ None
 
 -- the hand-overs of all tiles: those of the last tile first, each tile's in their own order
 abbrev pub all_handed : List TileView → List Transfer

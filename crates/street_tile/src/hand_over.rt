@@ -78,10 +78,9 @@ impl Comers {
         if lanes > u32::MAX as usize / 3 {
             return Err(AllocError);
         }
-        Ok(Comers {
-            by_lane: nones(alloc, lanes)?,
-            full: FilledLists::new(alloc, 3 * lanes)?,
-        })
+        let by_lane = nones(alloc, lanes)?;
+        let full = FilledLists::new(alloc, 3 * lanes)?;
+        Ok(Comers { by_lane, full })
     }
 
     /// Notes who comes to own lane `n`.
