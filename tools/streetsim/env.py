@@ -229,7 +229,7 @@ class SignalEnv:
     def close(self) -> None:
         """Ends the run; nothing where none is under way."""
         if self.session is not None:
-            self.session.close()
+            self.session.finish()
             self.session = None
 
     def __enter__(self) -> SignalEnv:

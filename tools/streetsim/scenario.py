@@ -15,11 +15,12 @@ from streetsim.model.mapping import Place
 from streetsim.model.runs import read_with_map
 from streetsim.observe.trips import End, seconds_at_stops, trip_rows
 from streetsim.simulation.calls import METRES, CallGroup, LaneCalls, SimulationCalls, StretchCalls, VehicleCalls
+from streetsim.simulation.client import RunClient, ScriptKernel
 from streetsim.simulation.detours import Detours
 from streetsim.simulation.errors import NotHere
 from streetsim.simulation.fleet import NOWHERE, OnRoad
 from streetsim.simulation.script_settings import ScriptSettings
-from streetsim.simulation.simulation import Simulation as Running
+from streetsim.simulation.session import TraciSession
 
 __all__ = ["NOWHERE", "ListedScenario", "NotHere", "Scenario", "TrafficLight"]
 
@@ -53,7 +54,7 @@ class ScenarioWishes(TypedDict, total=False):
     controllers: Sequence[Controller]
 
 
-class Scenario(Running):
+class Scenario(TraciSession):
     """A running simulation of a run file and its map. Edges or lanes that are to be closed later are named as joint,
     where they are not yet so. Where vehicles of the file give way without a light, so many rounds of the run come
     first; yielding says how many lines they gave. Vehicles of a script give way to those of the file alone, and nobody
@@ -62,7 +63,7 @@ class Scenario(Running):
     vehicle of the file makes its stops. Observers see each second of the run, and controllers act behind the
     scenario's own (streetsim.kernel.loop)."""
 
-    lights_driven = True
+    lights_driven, kernel_of = True, ScriptKernel
 
     def __init__(
         self, run: FilePath, mapping: FilePath, program: str | None = None, workers: int = 1,
@@ -73,15 +74,15 @@ class Scenario(Running):
         where files cannot be read or do not fit, a round fails, or there is no program; Refused (streetsim.client)
         where a line is. Warns (Python's warnings) of lights and stops that are other than in SUMO."""
         source, read, _ = with_works(*read_with_map(run, mapping), mapping, [], WorksOptions(tuple(joint)))
-        super().__init__(source, read, ScriptSettings(rounds, driven=self.lights_driven, **wishes), program, workers)
+        settings = ScriptSettings(rounds, driven=self.lights_driven, program=program, workers=workers, **wishes)
+        super().__init__(source, read, settings)
         for note in self.notes:
             warnings.warn(note, stacklevel=2)
-        self.detectors: dict[str, int] = {}  # by name: number
         self.simulation, self.vehicle, self.route = ScenarioSimulation(self), ScenarioVehicle(self), ScenarioRoute(self)
         self.lane, self.edge = ScenarioLane(self), ScenarioEdge(self)
         self.inductionloop, self.trafficlight = ScenarioLoop(self), TrafficLight(self)
 
-    def controllers_after_script(self) -> Iterable[Controller]:
+    def further_controllers(self) -> Iterable[Controller]:
         """What sends vehicles round shut edges."""
         self.detours = Detours(self)
         return [self.detours]
@@ -98,7 +99,7 @@ class Scenario(Running):
             self.kill()
 
     @property
-    def client(self) -> replies.Client:
+    def client(self) -> RunClient:
         """A client of the program, which from then on knows all vehicles of the file. Steps are made by
         simulationStep."""
         self.kernel.enter_due(NEVER)
@@ -108,7 +109,9 @@ class Scenario(Running):
         """Makes one step (time 0), or all until the clock is at time seconds, rounded up, as in SUMO."""
         self.step(time)
 
-    def add(self, name: str, plan: Sequence[int], lane: int, depart: int, size: int = 1) -> None:
+    def add(  # type: ignore[override]  # by links, where TraCI's is by the name of a route
+        self, name: str, plan: Sequence[int], lane: int, depart: int, size: int = 1
+    ) -> None:
         """Adds a vehicle; plan: numbers of links; lane: of the first; size: cells. ValueError if its name is taken."""
         if name in self.fleet.numbers:
             raise ValueError(f"there is a vehicle {name!r} already")
@@ -186,7 +189,7 @@ class ListedScenario(Scenario):
     lights_driven = False
 
 
-class ScenarioPart(CallGroup[Scenario]):
+class ScenarioPart(CallGroup):
     """One domain of a scenario's calls, as vehicle or lane."""
 
     def __init__(self, scenario: Scenario) -> None:
@@ -199,7 +202,7 @@ class ScenarioPart(CallGroup[Scenario]):
         return ADVICE.get(called, "streetsim has nothing for it; see tools/PYTHON.md")
 
 
-class ScenarioSimulation(ScenarioPart, SimulationCalls[Scenario]):
+class ScenarioSimulation(ScenarioPart, SimulationCalls):
     """Calls on the run itself: its time, and how many vehicles are left."""
 
     name = "simulation"
@@ -213,10 +216,10 @@ class ScenarioRoute(ScenarioPart):
     def add(self, name: str, edges: Iterable[str]) -> None:
         """Names a route along edges, for vehicle.add, in place of an earlier one of that name; ValueError where an edge
         is unknown, two have no connection, or there is none."""
-        self.scenario.routes[name] = self.scenario.connections.plan_along(list(edges))
+        self.scenario.name_route(name, self.scenario.connections.plan_along(list(edges)))
 
 
-class ScenarioVehicle(ScenarioPart, VehicleCalls[Scenario]):
+class ScenarioVehicle(ScenarioPart, VehicleCalls):
     """Calls on vehicles of the file and of the script; KeyError for a name that neither has."""
 
     name = "vehicle"
@@ -232,7 +235,7 @@ class ScenarioVehicle(ScenarioPart, VehicleCalls[Scenario]):
     def remove(self, name: str) -> None:
         """Takes a vehicle out, wherever it is; Gone (streetsim.client) where it has ended."""
         self.scenario.car(name)
-        self.scenario.take_out(self.scenario.fleet.numbers[name])
+        self.scenario.remove(name)
 
     def getIDList(self) -> tuple[str, ...]:
         """The names of the vehicles on lanes or in junctions."""
@@ -257,16 +260,8 @@ class ScenarioVehicle(ScenarioPart, VehicleCalls[Scenario]):
         return position if (position := self.on_road(name)) is not None and position.cell is not None else None
 
 
-class ScenarioStretch(ScenarioPart, StretchCalls[Scenario]):
+class ScenarioStretch(ScenarioPart, StretchCalls):
     """Calls on lanes and edges. KeyError for an unknown name."""
-
-    def link_lanes(self, name: str) -> list[Place]:
-        """All (link, lane) of a lane or an edge, by its name; each class below gives its own."""
-        raise NotImplementedError
-
-    def numbers(self, name: str) -> list[int]:
-        """The numbers of the vehicles on it, from the stop line; of an edge, lane after lane."""
-        return [number for link_lane in self.link_lanes(name) for number in self.scenario.view.on_lane(link_lane)]
 
     def speeds(self, name: str) -> list[float]:
         """Metres a second of each vehicle on it, in the order of `numbers`."""
@@ -274,7 +269,7 @@ class ScenarioStretch(ScenarioPart, StretchCalls[Scenario]):
         return [positions[number].speed * METRES for number in self.numbers(name)]
 
 
-class ScenarioLane(LaneCalls[Scenario], ScenarioStretch):
+class ScenarioLane(LaneCalls, ScenarioStretch):
     """Calls on lanes, which can be closed."""
 
     name = "lane"
@@ -299,6 +294,11 @@ class ScenarioLoop(ScenarioPart):
 
     name = "inductionloop"
 
+    def __init__(self, scenario: Scenario) -> None:
+        """scenario: of which the calls are; no detector is placed."""
+        super().__init__(scenario)
+        self.placed: dict[str, int] = {}  # by name: number
+
     def add(self, name: str, lane: str, place: float, period: int) -> None:
         """Places a detector at place metres of a lane, with rows of period seconds, 1 to 100,000, from now on, instead
         of an earlier one of that name. KeyError for an unknown lane, ValueError for a place beyond it, BadCount
@@ -307,15 +307,15 @@ class ScenarioLoop(ScenarioPart):
         if not 0 <= place <= ceil(self.scenario.map.links[link].metres):
             raise ValueError(f"lane {lane!r} has no place at {place:g} m")
         cell, _ = self.scenario.map.links[link].cells_between(place, place)
-        self.scenario.detectors[name] = self.scenario.program.client.meter(link, index, cell, period)
+        self.placed[name] = self.scenario.program.client.meter(link, index, cell, period)
 
     def getIDList(self) -> tuple[str, ...]:
         """The names of the detectors that the script placed."""
-        return tuple(self.scenario.detectors)
+        return tuple(self.placed)
 
     def last_row(self, name: str) -> replies.Row | None:
         """The row of the last full period of a detector; None before its end."""
-        rows = self.scenario.program.client.read(self.scenario.detectors[name]).rows
+        rows = self.scenario.program.client.read(self.placed[name]).rows
         return rows[-1] if rows else None
 
     def getLastIntervalVehicleNumber(self, name: str) -> int:
@@ -350,7 +350,7 @@ class TrafficLight(ScenarioPart):
         to 0 s or is longer than 200,000 s."""
         if not self.scenario.signals_in_force.nodes(name):
             raise KeyError(name)
-        return self.scenario.show_program(name, [(seconds, state) for seconds, state in phases], offset)
+        return self.scenario.control.send_program(name, [(seconds, state) for seconds, state in phases], offset)
 
     def getRedYellowGreenState(self, name: str) -> str:
         """What a light that detectors drive shows now, SUMO's letter for each signal; NotHere for other lights."""

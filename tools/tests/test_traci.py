@@ -871,11 +871,11 @@ class Vehicles(Started):
     def test_a_run_whose_outputs_cannot_be_written_ends(self):
         words = ["sumo", "-n", self.write("x.net.xml", SIGNALLED), "-r", self.write("x.rou.xml", ROUTES), "-W"]
         for option in ("--tripinfo-output", "--log"):
-            really = TraciSession.close
-            with unittest.mock.patch.object(TraciSession, "close", autospec=True, side_effect=really) as close:
+            really = TraciSession.finish
+            with unittest.mock.patch.object(TraciSession, "finish", autospec=True, side_effect=really) as finish:
                 with self.assertRaisesRegex(traci.FatalTraCIError, "No such file or directory"):
                     traci.start([*words, option, str(self.folder / "no/x.xml")])
-            close.assert_called_once()
+            finish.assert_called_once()
 
     def test_a_run_ends_also_where_its_outputs_fail(self):
         words = ["sumo", "-n", self.write("x.net.xml", SIGNALLED), "-r", self.write("x.rou.xml", ROUTES), "-W"]

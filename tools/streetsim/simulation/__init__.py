@@ -1,11 +1,11 @@
 """A run of the program under SUMO's names. `streetsim.scenario`, `streetsim.traci` and `streetsim.env` are its faces.
 
-simulation: the run itself, on the kernel, with its lanes and signals; script_settings: what a script asks of it;
-client: its program, for lines of a script's own; fleet: its vehicles; view: where each vehicle is; connections: how
-links lead on; signals_in_force: what its lights show; detours: routes round shut edges; calls: those that scenarios and
-TraCI both have.
+session: the run itself, on the kernel, for scenarios and for TraCI; script_settings: what a script asks of it; client:
+its program and kernel, for lines of a script's own; fleet: its vehicles; view: where each vehicle is; connections: how
+links lead on; signals_in_force: what its lights show; calls: those that scenarios and TraCI both have; detours: routes
+round shut edges, of scenarios.
 
-session: a run under TraCI. opening, options, street_facts: SUMO's words and files; tally, inside, vehicle_points: how
-long and how far, and where in the plane; columns: values of many vehicles or lanes at once; lights, types: programs of
-lights, and types of vehicles; shortest_paths, rerouting: other routes; deeds, saving: states; statistics: SUMO's last
-lines; writing: output files."""
+For TraCI: opening, options, street_facts: SUMO's words and files; tally, inside, vehicle_points: how long and how far,
+and where in the plane; columns: values of many vehicles or lanes at once; lights, types: programs of lights, and types
+of vehicles; shortest_paths, rerouting: other routes; deeds, saving: states; statistics: SUMO's last lines; writing:
+output files."""

@@ -1,24 +1,23 @@
 """TraCI's calls that scenarios and streetsim.traci both have, in metres, metres a second and seconds."""
 from collections.abc import Callable, Container, Sequence
-from typing import Any, Generic, TypeVar
+from typing import Any
 
 from streetsim.base import limits
 from streetsim.model.mapping import Place
 from streetsim.simulation.errors import NotHere
 from streetsim.simulation.fleet import NOWHERE, OnRoad
-from streetsim.simulation.simulation import Simulation
+from streetsim.simulation.session import TraciSession
 
 METRES, GAP = limits.CELL_METRES, limits.GAP_METRES
-Simulated = TypeVar("Simulated", bound=Simulation)
 
 
-class CallGroup(Generic[Simulated]):
+class CallGroup:
     """A domain of calls, as TraCI groups them. One that is not here raises NotHere, which says what to do instead."""
 
     name = ""
 
-    def __init__(self, session: Callable[[], Simulated]) -> None:
-        """session: gives the simulation that is under way."""
+    def __init__(self, session: Callable[[], TraciSession]) -> None:
+        """session: gives the session that is under way."""
         self.session = session
 
     def __getattr__(self, call: str) -> Any:
@@ -36,7 +35,7 @@ class CallGroup(Generic[Simulated]):
         """Refuses a name that is not one of names, where a domain does so; here every name may be."""
 
 
-class SimulationCalls(CallGroup[Simulated]):
+class SimulationCalls(CallGroup):
     """Calls on the run itself."""
     def getTime(self) -> float:
         """The clock, in seconds."""
@@ -47,7 +46,7 @@ class SimulationCalls(CallGroup[Simulated]):
         return self.session().count_not_ended()
 
 
-class VehicleCalls(CallGroup[Simulated]):
+class VehicleCalls(CallGroup):
     """Calls on a vehicle. Of one that is not on the road those on its lane, edge, place and speed give NOWHERE, TraCI's
     value for "nowhere", and empty texts; in scenarios those on the lane of one in a junction too."""
 
@@ -59,8 +58,8 @@ class VehicleCalls(CallGroup[Simulated]):
         """As on_road, for calls on its lane; in scenarios None also in a junction."""
         return self.on_road(name)
 
-    def simulation_with(self, name: str) -> Simulated:
-        """The simulation; a domain that knows its vehicles raises its own exception for an unknown one."""
+    def simulation_with(self, name: str) -> TraciSession:
+        """The session; a domain that knows its vehicles raises its own exception for an unknown one."""
         return self.session()
 
     def getRoadID(self, name: str) -> str:
@@ -118,7 +117,7 @@ class VehicleCalls(CallGroup[Simulated]):
         return simulation.edge_names(simulation.plan(name))
 
 
-class TrafficCalls(CallGroup[Simulated]):
+class TrafficCalls(CallGroup):
     """Calls on lanes, edges or detectors, by the vehicles that are there."""
 
     def numbers(self, name: str) -> list[int]:
@@ -147,15 +146,24 @@ class TrafficCalls(CallGroup[Simulated]):
         return sum(speeds) / len(speeds) if speeds else self.speed_of_nobody(name)
 
 
-class StretchCalls(TrafficCalls[Simulated]):
+class StretchCalls(TrafficCalls):
     """Calls on what has a length, on which vehicles can stand."""
+
+    def link_lanes(self, name: str) -> list[Place]:
+        """All its (link, lane). Each class below gives its own."""
+        raise NotImplementedError
+
+    def numbers(self, name: str) -> list[int]:
+        """The numbers of the vehicles on its cells, from the stop line; of an edge, lane after lane."""
+        on_lane = self.session().view.on_lane
+        return [number for link_lane in self.link_lanes(name) for number in on_lane(link_lane)]
 
     def getLastStepHaltingNumber(self, name: str) -> int:
         """How many vehicles there stand."""
         return sum(not speed for speed in self.speeds(name))
 
 
-class LaneCalls(StretchCalls[Simulated]):
+class LaneCalls(StretchCalls):
     """Calls on lanes, which can be closed."""
 
     def getIDList(self) -> tuple[str, ...]:

@@ -1,9 +1,11 @@
-"""The program of a run under a script, which may send it lines of its own between two steps."""
+"""The program and the kernel of a run under a script, which may send lines of its own between two steps."""
 from collections.abc import Iterable, Iterator, Sequence
 
 from streetsim.base.client import Client, NoReply, read_reply
+from streetsim.kernel.loop import Kernel, SentLine
 from streetsim.kernel.program import Program
 from streetsim.kernel.session_program import QUESTION_PREFIXES
+from streetsim.model.runs import Line
 
 ADVANCE = b'{"cmd":"advance"'
 
@@ -69,3 +71,20 @@ class OwnProgram(Program):
             self.exchange([])
         self.client.changes.append(b'%s,"steps":%d}\n' % (ADVANCE, steps))
         super().begin(steps)
+
+
+class ScriptKernel(Kernel):
+    """The kernel of a run under a script."""
+
+    program: OwnProgram
+
+    def send_soon(self, lines: Sequence[Line]) -> None:
+        """Sends lines of a controller's own before the next step, or ahead of the next line that is sent."""
+        self.program.client.send_soon(line.text.encode() + b"\n" for line in lines)
+        self.sent_lines += [SentLine(self.clock, line, False) for line in lines]
+
+    def refusal(self, line: Line, reply: bytes) -> Exception:
+        """The reply itself as an exception."""
+        fault = read_reply(reply)
+        assert isinstance(fault, Exception)
+        return fault

@@ -6,7 +6,7 @@ from streetsim.kernel.loop import NEVER, Controller, Kernel
 from streetsim.kernel.seconds import Block
 from streetsim.model.rows import unbroken_stretches
 from streetsim.search.route_underway import Diversion, PlannedVehicle, WaysRound, impassable_edges, turning_to
-from streetsim.simulation.simulation import Simulation
+from streetsim.simulation.session import TraciSession
 
 
 class Detours(Controller):
@@ -14,7 +14,7 @@ class Detours(Controller):
     another number in the program; one on the road does so where its new way begins. Vehicles are by the numbers of the
     fleet."""
 
-    def __init__(self, simulation: Simulation) -> None:
+    def __init__(self, simulation: TraciSession) -> None:
         """simulation: whose vehicles these are."""
         self.simulation = simulation
         self.turning: dict[int, Diversion] = {}  # those on the road who are to take another way

@@ -1,18 +1,18 @@
 """The lights of a session under a script."""
 from collections import deque
-from collections.abc import Mapping
+from collections.abc import Mapping, Sequence
 from dataclasses import dataclass, field
 from math import inf
 
 from streetsim.base.files import Fault
-from streetsim.control.actuated_driver import DrivenProgram as Driven
+from streetsim.control.actuated_driver import DrivenProgram as Driven, Driver
 from streetsim.control.actuated_logic import Actuated
 from streetsim.kernel.loop import NEVER, Controller, Kernel
 from streetsim.kernel.seconds import Block
+from streetsim.simulation.client import ScriptKernel
 from streetsim.simulation.deeds import Deeds, Doer, deed
 from streetsim.simulation.errors import TraCIException
-from streetsim.simulation.signals_in_force import CONSTANT
-from streetsim.simulation.simulation import Simulation
+from streetsim.simulation.signals_in_force import CONSTANT, SignalsInForce
 from streetsim.sumo.crossing import PERMISSIVE
 
 STATES = "rRyYgGsSuUoO"
@@ -63,20 +63,21 @@ class Control(Controller, Doer):
     part = "control"
 
     def __init__(
-        self, simulation: Simulation, lights: dict[str, LightShow], offsets: Mapping[tuple[str, str], float],
-        deeds: Deeds,
-    ) -> None:
-        """lights: by name, as the files have them; offsets: seconds, by light and program; deeds: where those of a
-        script are noted."""
-        self.simulation, self.lights, self.deeds = simulation, lights, deeds
+        self, kernel: ScriptKernel, signals_in_force: SignalsInForce, driver: Driver, lights: dict[str, LightShow],
+        offsets: Mapping[tuple[str, str], float], deeds: Deeds,
+    ) -> None:  # fmt: skip
+        """driver: of lights by detectors; lights: by name, as the files have them; offsets: seconds, by light and
+        program; deeds: where those of a script are noted."""
+        self.kernel, self.signals_in_force, self.driver = kernel, signals_in_force, driver
+        self.lights, self.deeds = lights, deeds
         self.begins = dict(offsets)  # by light and program: a clock at which its cycle begins, as it goes on unseen
         self.timers: dict[str, tuple[int, int]] = {}  # by light (clock, index): the phase that begins then
-        self.changes = deque(simulation.map.switches)  # by time of day, that the lights are still to be told of
+        self.changes = deque(kernel.map.switches)  # by time of day, that the lights are still to be told of
 
     @property
     def clock(self) -> int:
         """The clock of the run."""
-        return self.simulation.clock
+        return self.kernel.clock
 
     def begin(self, kernel: Kernel) -> None:
         """Notes the run's begin."""
@@ -93,7 +94,7 @@ class Control(Controller, Doer):
         those that a script has set keep what it set."""
         while self.changes and self.changes[0][0] <= clock:
             _, name, program = self.changes.popleft()
-            in_force = self.simulation.signals_in_force
+            in_force = self.signals_in_force
             if name in self.lights and in_force.forgotten.isdisjoint(in_force.nodes(name)):
                 light = self.lights[name]
                 light.phases, light.names = light.programs[program]
@@ -102,21 +103,21 @@ class Control(Controller, Doer):
     def light(self, name: str) -> LightShow:
         """A light by its name, with the program that it has by time of day."""
         if self.changes:
-            self.note_switches(self.simulation.clock - 1)
+            self.note_switches(self.kernel.clock - 1)
         if (light := self.lights.get(name)) is None:
             raise TraCIException(f"Traffic light '{name}' is not known")
         return light
 
     def driven(self, name: str) -> Driven | None:
         """What drives a light by detectors now; None where it has a program of seconds, or one of the script."""
-        return self.simulation.driver.controller_of(name)
+        return self.driver.controller_of(name)
 
     @deed
     def run_program(self, name: str, program: str) -> None:
         """Runs one of a light's programs, from the second of its cycle that it has come to unseen, as a script has left
         it; one that detectors drive, from where they have brought it meanwhile. Nothing where it runs already.
         TraCIException where the light has none of this name."""
-        light, driver = self.light(name), self.simulation.driver
+        light, driver = self.light(name), self.driver
         if program not in light.programs:
             raise TraCIException(f"Traffic light '{name}' has no program {program!r}")
         if program == light.program:
@@ -126,9 +127,9 @@ class Control(Controller, Doer):
             self.show_program(name, program, phases, names, self.begins.get((name, program), 0.0))
             return
         self.leave_program(name)
-        self.simulation.signals_in_force.forget(name)
-        driver.release(name, self.simulation.clock)
-        self.simulation.kernel.send(controller.resumes(self.simulation.clock))
+        self.signals_in_force.forget(name)
+        driver.release(name, self.kernel.clock)
+        self.kernel.send(controller.resumes(self.kernel.clock))
         light.phases, light.program, light.names = phases, program, names
 
     def state(self, name: str) -> str:
@@ -145,7 +146,7 @@ class Control(Controller, Doer):
 
     def phase_of(self, name: str, light: LightShow) -> tuple[int, float]:
         """What present_phase gives for a light of a name."""
-        clock = self.simulation.clock
+        clock = self.kernel.clock
         if (timer := self.timers.get(name)) is not None:
             end, index = timer
             return (index - 1) % len(light.phases), end - clock
@@ -160,7 +161,7 @@ class Control(Controller, Doer):
     def show_phase(self, name: str, index: int) -> None:
         """Shows the phase of an index of the light's program from now on, from its begin."""
         light = self.light(name)
-        begin = self.simulation.clock - seconds_of(light.phases[:index])
+        begin = self.kernel.clock - seconds_of(light.phases[:index])
         self.show(name, light.phases, begin)
         light.begin = begin
 
@@ -173,7 +174,7 @@ class Control(Controller, Doer):
         self.show(name, phases, begin)
         self.leave_program(name)
         light.phases, light.program, light.names, light.begin = phases, program, names, begin
-        light.since = self.simulation.clock
+        light.since = self.kernel.clock
 
     @deed
     def set_program(self, name: str, program: str, phases: Phases, names: list[str], begin: float) -> None:
@@ -187,11 +188,11 @@ class Control(Controller, Doer):
         """Shows the phase of an index for its seconds from now on, whatever end was set for the present one. Where that
         is the present one it goes on, with its end set as by end_phase; but where detectors drive the light, which
         stays driven, nothing changes. TraCIException for a wrong index, and for a NEMA light that they drive."""
-        phases, clock = self.light(name).phases, self.simulation.clock
+        phases, clock = self.light(name).phases, self.kernel.clock
         check_index(name, phases, index)
         if (driven := self.driven(name)) is not None:
             if actuated_of(name, driven).go_to(index, clock):
-                self.simulation.kernel.send(driven.begins(clock))
+                self.kernel.send(driven.begins(clock))
         elif index == self.present_phase(name)[0]:
             self.end_phase(name, clock + max(1, round(phases[index][0])))
         else:
@@ -231,19 +232,33 @@ class Control(Controller, Doer):
     def hold(self, name: str, state: str) -> None:
         """Shows a state, each g as G, until another call sets the light, whose phases it replaces by this one, as the
         program "online"; detectors drive it no more. TraCIException for a wrong state."""
-        self.show_program(name, "online", [(CONSTANT, state)], [""], self.simulation.clock)
+        self.show_program(name, "online", [(CONSTANT, state)], [""], self.kernel.clock)
 
     def show(self, name: str, phases: Phases, begin: float) -> None:
         """Sends a cycle of phases of which the first began at the clock begin. TraCIException, before anything is sent,
         where the cycle rounds to 0 s or is longer than 200,000 s."""
         sent = as_sent(phases)
         if len(sent) == 1 and sent[0][0] == CONSTANT and not set(sent[0][1]) & set(PERMISSIVE):
-            self.simulation.show_constant(name, sent[0][1], begin)
+            self.send_constant(name, sent[0][1], begin)
             return
         try:
-            self.simulation.show_program(name, sent, begin % seconds_of(sent))
+            self.send_program(name, sent, begin % seconds_of(sent))
         except Fault as fault:
             raise TraCIException(str(fault)) from None
+
+    def send_program(self, light: str, phases: Sequence[tuple[float, str]], offset: float) -> list[str]:
+        """Shows a cycle of (seconds, state) at a light from the next step on; lines of the file for the light are no
+        longer sent, and detectors drive it no more. offset: as in a tlLogic, seconds. Gives warnings. Fault as of
+        SignalsInForce.program_lines, after which all is as before."""
+        lines, warnings = self.signals_in_force.program_lines(light, phases, offset, self.kernel.clock)
+        self.kernel.send_soon(lines)
+        self.driver.release(light, self.kernel.clock)
+        return warnings
+
+    def send_constant(self, light: str, state: str, begin: float) -> None:
+        """As send_program, but a state without permissive greens, from the clock begin on until another is shown."""
+        self.kernel.send_soon(self.signals_in_force.constant_lines(light, state, begin))
+        self.driver.release(light, self.kernel.clock)
 
 
 def seconds_of(phases: Phases) -> float:

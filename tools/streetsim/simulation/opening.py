@@ -11,7 +11,11 @@ from tempfile import TemporaryDirectory
 from streetsim.base.files import FilePath, whole_file
 from streetsim.base.words import ROUNDS, names_in
 from streetsim.cli.sumo_words import IMPORTED
+from streetsim.control.works_asked import all_works
+from streetsim.control.works_sites import with_works
+from streetsim.model.mapping import read_map
 from streetsim.model.replications import DRAWN
+from streetsim.model.runs import read_own_run
 from streetsim.observe.sumo_kinds import DETAILS, OutputFile
 from streetsim.simulation.confining import why_not_written
 from streetsim.simulation.errors import FatalTraCIError
@@ -53,12 +57,15 @@ def import_session(folder: Path, options: Options) -> TraciSession:
     messages = import_or_take_kept(folder, arguments, routes, files)
     try:
         facts = read_facts(options["net-file"], additional, routes)
-        session = TraciSession(folder, facts, options, script_settings_of(options))
+        run, mapping = read_own_run(folder / "run.jsonl"), read_map(folder / "map.json")
+        works = all_works([options.get("close", "")], mapping, run.start(), None)
+        run, mapping, works_notes = with_works(run, mapping, folder / "map.json", works)
+        session = TraciSession(run, mapping, script_settings_of(options), facts, options)
     except Exception:
         write_warnings(messages, options)
         raise
     try:
-        write_warnings(messages + notes_of(session), options)
+        write_warnings(messages + notes_of(session, works_notes), options)
         prefix = options.get("output-prefix", "")
         paths, details = output_paths(options), frozenset(name for name in DETAILS if is_on(options.get(name, "false")))
         refuse_outside(paths.values())
@@ -69,7 +76,7 @@ def import_session(folder: Path, options: Options) -> TraciSession:
         unopened = session.write(wished) if wished else []
         tell_always(options, [*facts.unwritten, *outside.values(), *unopened])
     except Exception:
-        session.close()
+        session.finish()
         raise
     return session
 
@@ -119,13 +126,14 @@ def script_settings_of(options: Options) -> ScriptSettings:
     )
 
 
-def notes_of(session: TraciSession) -> str:
-    """Lines on who gives way without a light, and on what a session does otherwise than SUMO; empty without any."""
+def notes_of(session: TraciSession, works_notes: Iterable[str]) -> str:
+    """Lines on who gives way without a light, on works, and on what a session does otherwise than SUMO; empty without
+    any."""
     lines = []
     if session.yielding.lines:
         gaps = "in the gaps of the vehicles of the route files; those that the script adds are in no gaps"
         lines.append(f"{session.yielding.summary()}, {gaps}")
-    lines += [*session.works_notes, *(f"warning: {text}" for text in session.notes)]
+    lines += [*works_notes, *(f"warning: {text}" for text in session.notes)]
     return "".join(f"{line}\n" for line in lines)
 
 

@@ -14,8 +14,8 @@ from streetsim.model.runs import Run
 
 @dataclass(frozen=True, slots=True)
 class ScriptSettings:
-    """What a script asks of a run, as the words of streetsim-run have it, and the user's own observers and
-    controllers."""
+    """What a script asks of a run, as the words of streetsim-run have it, with the program that makes it, and the user's
+    own observers and controllers."""
 
     rounds: int = 0  # runs that are made before, by which vehicles of the file give way without a light
     merging: bool = True
@@ -28,6 +28,8 @@ class ScriptSettings:
     choosing: bool = False  # the script may put other programs of the files in force
     observers: Sequence[Observer] = ()
     controllers: Sequence[Controller] = ()
+    program: str | None = None  # as find_program takes it
+    workers: int = 1  # threads of the program
 
     def settings(self, run: Run, mapping: Map) -> Settings:
         """The settings of a run whose end is not known: an hour after the last departure is a guess. Fault where a name

@@ -1,36 +1,48 @@
-"""The session of streetsim.traci: a run whose script adds, removes and reroutes vehicles and sets lights. `opening`
-makes it of SUMO's files."""
+"""The session of a script: a run of the program whose script adds, removes and reroutes vehicles, closes lanes and sets
+lights. TraCI's is of SUMO's files (`opening` makes it); a scenario's is of a run file and its map."""
 from collections.abc import Iterable, Mapping, Sequence
+from contextlib import ExitStack
 from dataclasses import replace
-from pathlib import Path
+from functools import cached_property, partial
+from math import ceil
+from operator import attrgetter
 
 from streetsim.base.arrays import numpy as np
 from streetsim.base.client import read_reply
 from streetsim.base.files import note_kept
-from streetsim.control.works_asked import all_works
-from streetsim.control.works_sites import with_works
+from streetsim.base.program import find_program
+from streetsim.control.actuated_driver import Driver
+from streetsim.control.merging_links import Merges
+from streetsim.control.steering import Steering
 from streetsim.kernel.loop import NEVER, Controller, Kernel, own_line
 from streetsim.kernel.seconds import Block
+from streetsim.kernel.serving import serving_program
 from streetsim.model.inside import Inside
-from streetsim.model.mapping import read_map
-from streetsim.model.runs import Line, read_own_run
+from streetsim.model.mapping import Map, Place
+from streetsim.model.replications import drawn
+from streetsim.model.runs import Command, Line, Run
 from streetsim.model.stops import STANDING, Visit
+from streetsim.observe.giving_way_rounds import giving_way
 from streetsim.observe.sumo_kinds import OutputFile
 from streetsim.observe.sumo_writing import Outputs
-from streetsim.simulation.client import RunClient
+from streetsim.simulation.client import OwnProgram, RunClient, ScriptKernel
 from streetsim.simulation.columns import LaneColumns, Streets, VehicleColumns
+from streetsim.simulation.connections import Connections
 from streetsim.simulation.deeds import Deeds, Doer, deed
 from streetsim.simulation.errors import FatalTraCIError, TraCIException
+from streetsim.simulation.fleet import Fleet
 from streetsim.simulation.lights import Control
 from streetsim.simulation.script_settings import ScriptSettings
 from streetsim.simulation.shortest_paths import ShortestPaths
-from streetsim.simulation.simulation import ScriptKernel, Simulation
+from streetsim.simulation.signals_in_force import SignalsInForce
 from streetsim.simulation.street_facts import Facts
 from streetsim.simulation.tally import LoopTally, Tally
 from streetsim.simulation.types import TypesByVehicle
 from streetsim.simulation.vehicle_points import VehiclePoints
-from streetsim.simulation.view import SecondObserver
+from streetsim.simulation.view import FleetSecond, View
 from streetsim.simulation.writing import Files
+
+MADE_ONCE_ASKED = frozenset(("paths", "vehicle_points", "streets", "vehicle_columns", "lane_columns"))
 
 
 class SessionKernel(ScriptKernel):
@@ -41,36 +53,82 @@ class SessionKernel(ScriptKernel):
         return FatalTraCIError(f"streetsim refused {line.text[:60]!r}: {read_reply(reply)}")
 
 
-class TraciSession(Simulation, Doer):
-    """A simulation for TraCI."""
+class TraciSession(Doer):
+    """A run of the program: its map, clock, vehicles, lanes and lights. At each clock at which a script stops it comes
+    before what controllers do there (after_script), but for merging and buses (before_script): these have acted."""
 
-    kernel_of, part = SessionKernel, "session"
+    kernel_of: type[ScriptKernel] = SessionKernel
+    part = "session"
 
-    def __init__(self, folder: Path, facts: Facts, options: Mapping[str, str], settings: ScriptSettings) -> None:
-        """folder: has run.jsonl and map.json, as the import wrote them; facts: of SUMO's files; options: of SUMO's
-        command line, with works as --close of streetsim-run has them. Fault where the run or the map cannot be read,
-        the works cannot be made, the program not started, or a round fails."""
-        run, mapping = read_own_run(folder / "run.jsonl"), read_map(folder / "map.json")
-        works = all_works([options.get("close", "")], mapping, run.start(), None)
-        run, mapping, self.works_notes = with_works(run, mapping, folder / "map.json", works)
-        self.facts, self.options, self.inside = facts, options, Inside(mapping)
+    def __init__(
+        self, source: Run, mapping: Map, script_settings: ScriptSettings, facts: Facts | None = None,
+        options: Mapping[str, str] | None = None,
+    ) -> None:  # fmt: skip
+        """facts: of SUMO's files, options: of SUMO's command line; None: there are none. Fault where a round fails or
+        there is no program, what the kernel's `refusal` gives where a first line is refused."""
+        if script_settings.drawn:
+            source, mapping = drawn(source, mapping)
+        self.script_settings, self.map, self.inside = script_settings, mapping, Inside(mapping)
+        self.facts, self.options = facts or Facts(), options or {}
         self.detectors = {detector.name: detector for detector in mapping.detectors}
+        self.settings = script_settings.settings(source, mapping)
+        program, workers = script_settings.program, script_settings.workers
+        rounds = partial(serving_program, program, source.path, workers)
+        with_rounds = giving_way(source, mapping, self.settings, script_settings.rounds, rounds, lambda *_: None)
+        self.source, self.yielding = with_rounds
+        self.notes = [*self.settings.lights.notes(), *self.settings.buses.notes()]
+        self.connections, self.edges = Connections(mapping), [link.edge for link in mapping.links]
+        self.lane_of = {mapping.lane_name(link, lane): (link, lane) for link, lane in mapping.lanes()}
+        self.program_and_workers = find_program(program), workers
         self.writer: Outputs | None = None  # of SUMO's output files
-        super().__init__(run, mapping, settings)
+        self.start()
 
     def start(self) -> None:
-        """As Simulation.start; nothing is done by a script."""
-        self.types, self.deeds = TypesByVehicle(self.map), Deeds()
+        """Starts the program, and has the run begin; nothing is done by a script."""
+        mapping = self.map
+        self.types, self.deeds = TypesByVehicle(mapping), Deeds()
         self.of_file = list(self.source.enters)
         self.source.enters = self.lines = list(self.of_file)
         self.pending: dict[int, tuple[int, Sequence[int]]] = {}  # by vehicle: a link, and other links after its end
-        super().start()
+        self.routes: dict[str, Sequence[int]] = {}  # those that a script adds: links
+        for name in self.__dict__.keys() & MADE_ONCE_ASKED:
+            del self.__dict__[name]
+        self.steering, self.merging = Steering(self.source, mapping, self.settings), self.settings.merging
+        self.signals_in_force = SignalsInForce(mapping, (line.command for line in self.source.first))
+        self.steering.timed.left_out = self.signals_in_force.forgotten
+        self.program = OwnProgram(*self.program_and_workers)
+        self.kernel = self.kernel_of(self.program, self.source, mapping, [], [])
+        self.fleet, self.view = Fleet(self.source, mapping, self.kernel.vehicles), View(mapping)
+        self.tally = Tally(self.view, self.fleet, mapping.links, self.inside, self.dawdle)
+        self.loops = LoopTally([detector for detector in mapping.detectors if detector.kind == "e1"])
+        self.place_controllers()
+        self.kernel.observers = self.script_settings.observers
         self.forget_steps()
-        self.paths = ShortestPaths(self, self.inside, self.view, self.facts)
-        self.vehicle_points = VehiclePoints(self.view, self.map)
-        streets = Streets(self.map)
-        self.vehicle_columns = VehicleColumns(self.view, self.tally, self.vehicle_points, streets)
-        self.lane_columns = LaneColumns(self.view, self.tally, self.fleet, streets, self.facts, self.lane_of)
+        try:
+            self.kernel.begin(NEVER)
+        except BaseException:
+            self.kill()
+            raise
+
+    def place_controllers(self) -> None:
+        """Gives the kernel its controllers: those that act before a script, and those that act after it."""
+        of_files = self.facts.lights_at({light for light, _ in self.map.signals})
+        lights = {
+            name: replace(light, programs=dict(light.programs), scripted=set()) for name, light in of_files.items()
+        }
+        offsets = self.facts.offsets
+        self.control = Control(self.kernel, self.signals_in_force, self.driver, lights, offsets, self.deeds)
+        self.turning = TurningVehicles(self)
+        controllers, index = self.steering.controllers, self.steering.controllers.index(self.steering.lights)
+        self.before_script = [*controllers[:index], self.turning]
+        of_script = self.script_settings.controllers
+        after = [self.control, *self.further_controllers(), *controllers[index:], self.signals_in_force, *of_script]
+        self.after_script = sorted(after, key=attrgetter("shows_alone"))  # who gives way sees what all others show
+        self.kernel.controllers = [*self.before_script, *self.after_script]
+
+    def further_controllers(self) -> Iterable[Controller]:
+        """Further controllers that act behind a script, before lights."""
+        return ()
 
     def restart(self) -> None:
         """Has the run begin anew, and with it the output files. ProgramEnded where the program failed, Fault where a
@@ -90,25 +148,50 @@ class TraciSession(Simulation, Doer):
         self.began_stops: set[int] = set()
         self.ended_stops: set[int] = set()
 
-    def controllers_before_script(self) -> Iterable[Controller]:
-        """What has vehicles turn off."""
-        self.turning = TurningVehicles(self)
-        return [self.turning]
+    @cached_property
+    def paths(self) -> ShortestPaths:
+        """Shortest ways between edges."""
+        return ShortestPaths(self.kernel, self.inside, self.view, self.facts)
 
-    def controllers_after_script(self) -> Iterable[Controller]:
-        """What the script's lights show."""
-        of_files = self.facts.lights_at({light for light, _ in self.map.signals})
-        lights = {
-            name: replace(light, programs=dict(light.programs), scripted=set()) for name, light in of_files.items()
-        }
-        self.control = Control(self, lights, self.facts.offsets, self.deeds)
-        return [self.control]
+    @cached_property
+    def vehicle_points(self) -> VehiclePoints:
+        """Where vehicles are in the plane."""
+        return VehiclePoints(self.view, self.map)
 
-    def observers_before_view(self) -> Iterable[SecondObserver]:
-        """What counts standing and distances, and who passes induction loops."""
-        self.tally = Tally(self.view, self.fleet, self.map.links, self.inside, self.dawdle)
-        self.loops = LoopTally([detector for detector in self.map.detectors if detector.kind == "e1"])
-        return [self.tally, self.loops]
+    @cached_property
+    def streets(self) -> Streets:
+        """What links are, as columns."""
+        return Streets(self.map)
+
+    @cached_property
+    def vehicle_columns(self) -> VehicleColumns:
+        """Values of many vehicles."""
+        return VehicleColumns(self.view, self.tally, self.vehicle_points, self.streets)
+
+    @cached_property
+    def lane_columns(self) -> LaneColumns:
+        """Values of many lanes."""
+        return LaneColumns(self.view, self.tally, self.fleet, self.streets, self.facts, self.lane_of)
+
+    @property
+    def clock(self) -> int:
+        """The seconds that the run has come to."""
+        return self.kernel.clock
+
+    @property
+    def dawdle(self) -> float:
+        """The chance, 0 to 1, that a vehicle goes on by a cell less in a step."""
+        return self.source.load.command.get("dawdle", 0) / 1000
+
+    @property
+    def driver(self) -> Driver:
+        """What drives lights by detectors."""
+        return self.steering.driver
+
+    @property
+    def merges(self) -> Merges:
+        """Where vehicles merge by turns."""
+        return self.steering.merging.merges
 
     @property
     def client(self) -> RunClient:
@@ -125,22 +208,52 @@ class TraciSession(Simulation, Doer):
         self.kernel.observers = [*self.kernel.observers, files]
         return self.writer.unopened
 
-    def close(self) -> None:
-        """Ends the run; output files get their names. ProgramEnded where the program failed."""
-        try:
-            self.finish()
-        finally:
-            if self.writer is not None:
-                self.writer.close()
-                note_kept("the outputs")
-
     def step(self, time: float = 0) -> None:
-        """As Simulation.step; then the lists of who was loaded, departed and arrived are of its steps alone."""
+        """Makes one step (time 0), or all until the clock is at time seconds, rounded up, as in SUMO; then the lists of
+        who was loaded, departed and arrived are of these steps alone."""
         first_new, self.loaded, stood = self.kernel.entered, [], self.at_stops()
-        super().step(time)
+        self.view.clear()
+        self.go_to(ceil(time) if time else self.clock + 1)
         self.loaded += self.fleet.names[first_new : self.kernel.entered]
         stands = self.at_stops()
         self.began_stops, self.ended_stops = stands - stood, stood - stands
+
+    def go_to(self, target: int) -> None:
+        """Makes the steps until the clock is at target."""
+        while self.clock < target:
+            self.kernel.act_due(self.after_script)
+            self.kernel.make_steps(target)
+            self.observe_steps()
+            self.kernel.act_due(self.before_script)
+
+    def observe_steps(self) -> None:
+        """Has all who look at each second do so for the last steps."""
+        (begins, data), owner = self.kernel.part, self.kernel.vehicles.owner
+        steps = len(begins) - 1
+        for step in range(steps):
+            block = self.kernel.last_second if step + 1 == steps else Block((begins[: step + 2], data))
+            arrived, slots_left, _ = block.arrived
+            clock, vehicles = self.clock - steps + step + 1, owner[block.car]
+            second = FleetSecond(clock, vehicles, block.slot, block.cell, block.speed, owner[arrived], slots_left)
+            for observer in (self.tally, self.loops, self.view):
+                observer.note_second(second)
+
+    def finish(self) -> None:
+        """Ends the run; what is due at its last clock is done as at that of a run, and output files get their names.
+        ProgramEnded where the program failed."""
+        with ExitStack() as ending:
+            if self.writer is not None:
+                ending.callback(note_kept, "the outputs")
+                ending.callback(self.writer.close)
+            ending.callback(self.program.client.close)
+            self.kernel.until = self.clock
+            self.kernel.act_due(self.after_script)
+            self.kernel.end()
+
+    def kill(self) -> None:
+        """Ends the program at once."""
+        self.program.process.kill()
+        self.program.client.end()
 
     @property
     def departed(self) -> tuple[str, ...]:
@@ -175,6 +288,44 @@ class TraciSession(Simulation, Doer):
         return {number for number, bus in buses.items() if bus.stopping and bus.stopping.state == STANDING}
 
     # Vehicles
+
+    def enter(self, name: str, plan: Iterable[int], lane: int, depart: int, size: int = 1) -> None:
+        """Enters a vehicle of the script. plan: links; lane: of the first; depart: clock; size: cells."""
+        command = enter_command(plan, lane, depart, size)
+        self.kernel.enter(len(self.fleet.names), command)
+        self.fleet.add(name, command)
+
+    def enter_anew(self, number: int, links: Sequence[int], depart: int) -> None:
+        """Takes a vehicle out and enters it with another plan, as plans do not change in the program. The links before
+        must be in the fleet's plan, with these behind them."""
+        lane, size = self.connections.departure_lane(links), self.fleet.size(number)
+        self.kernel.reenter(self.kernel.vehicles.car[number], enter_command(links, lane, depart, size))
+        self.fleet.enters[number] = enter_command(links, lane, depart, size)
+        self.steering.buses.let_go(number)
+
+    def take_out(self, number: int) -> None:
+        """Takes out a vehicle that the program was told of and that has not ended."""
+        self.kernel.take_out(self.kernel.vehicles.car[number])
+        self.view.remove(number)
+        self.steering.buses.let_go(number)
+
+    def plan(self, name: str) -> Sequence[int]:
+        """The numbers of the links of a vehicle's plan, driven ones among them; KeyError for an unknown vehicle."""
+        return self.fleet.plans[self.fleet.numbers[name]]
+
+    def names_of(self, numbers: Iterable[int]) -> tuple[str, ...]:
+        """The names of vehicles."""
+        names = self.fleet.names
+        return tuple(names[number] for number in numbers)
+
+    def count_not_ended(self) -> int:
+        """How many vehicles have not ended, those among them of which the program was not told yet."""
+        return len(self.fleet.names) - self.view.count
+
+    def edge_names(self, links: Iterable[int]) -> tuple[str, ...]:
+        """SUMO's name of the edge of each link."""
+        edges = self.edges
+        return tuple([edges[link] for link in links])
 
     def has_ended(self, name: str) -> bool:
         """Whether a vehicle of a name has ended."""
@@ -217,21 +368,6 @@ class TraciSession(Simulation, Doer):
     def adapt(self, edge: str, seconds: float | None) -> None:
         """Sets the seconds with which an edge counts for ways; None: those of its traffic again."""
         self.paths.set_edge_seconds(edge, seconds)
-
-    @deed
-    def close_lane(self, lane: str, begin: float = 0.0, end: float | None = None) -> None:
-        """As Simulation.close_lane."""
-        super().close_lane(lane, begin, end)
-
-    @deed
-    def reopen_lane(self, lane: str, begin: float = 0.0, end: float | None = None) -> None:
-        """As Simulation.reopen_lane."""
-        super().reopen_lane(lane, begin, end)
-
-    @deed
-    def open_held_lanes(self) -> None:
-        """As Simulation.open_held_lanes."""
-        super().open_held_lanes()
 
     def route_links(self, name: str) -> Sequence[int]:
         """The numbers of the links of a named route; TraCIException for an unknown one or one without a connection."""
@@ -289,6 +425,52 @@ class TraciSession(Simulation, Doer):
                 self.take_out(number)
                 self.view.leaving.append(number)
 
+    # Lanes
+
+    def lanes_on(self, edge: str) -> list[Place]:
+        """All (link, lane) of an edge; KeyError for an unknown one."""
+        return self.map.lanes(self.map.links_of[edge])
+
+    @deed
+    def close_lane(self, lane: str, begin: float = 0.0, end: float | None = None) -> None:
+        """Closes a lane, by SUMO's name, from begin to end metres (None: the lane's end), as road works do, in whole
+        cells; the first four of a lane with another beside it stay open as far as the works allow. ValueError for
+        metres beyond the lane, or an end not after the begin; KeyError for an unknown lane."""
+        command: Command = {"cmd": "close", **self.works_fields(lane, begin, end)}
+        if self.merging:
+            self.steering.merging.add_link(command["link"])
+        self.kernel.pass_on([own_line(command)])
+
+    @deed
+    def reopen_lane(self, lane: str, begin: float = 0.0, end: float | None = None) -> None:
+        """Opens what close_lane closed, with the same lane and metres; raises as that does."""
+        self.kernel.pass_on([own_line({"cmd": "reopen", **self.works_fields(lane, begin, end)})])
+
+    def stop_merging(self) -> None:
+        """From now on a vehicle before works waits for a gap, and none merge by turns."""
+        self.merging = False
+        self.steering.merging.stop()
+
+    @deed
+    def open_held_lanes(self) -> None:
+        """Opens what merging holds closed, until it closes that again."""
+        self.kernel.send(self.merges.reopening_commands())
+
+    def works_fields(self, lane: str, begin: float, end: float | None) -> Command:
+        """The fields link, lane, first and last (cells) of a close or reopen command. A lane may be closed to the whole
+        metre in which it ends, as streetsim-run --close allows; raises as close_lane does."""
+        number, index = self.lane_of[lane]
+        link = self.map.links[number]
+        end_metres = link.metres if end is None else end
+        if begin >= link.metres:
+            raise ValueError(f"lane {lane!r} ends at {link.metres:g} m, before {begin:g} m")
+        if not 0 <= begin < end_metres:
+            raise ValueError(f"lane {lane!r}: from {begin:g} m to {end_metres:g} m there are no works")
+        if end_metres > ceil(link.metres):
+            raise ValueError(f"lane {lane!r} ends at {link.metres:g} m, before {end_metres:g} m")
+        cells = link.closed_between(begin, end_metres)
+        return {"link": number, "lane": index, "first": cells[0], "last": cells[1]}
+
 
 class TurningVehicles(Controller):
     """Has the vehicles of a session that are to take another way do so at the node where it begins."""
@@ -310,3 +492,9 @@ class TurningVehicles(Controller):
         self.clock = clock
         for number, (link, links) in list(self.session.pending.items()):
             self.session.turn_off(number, link, links)
+
+
+def enter_command(plan: Iterable[int], lane: int, depart: int, size: int) -> Command:
+    """The command that enters a vehicle; arguments: as of TraciSession.enter."""
+    command = {"cmd": "enter", "plan": list(plan), "lane": lane, "depart": depart}
+    return command | {"size": size} if size != 1 else command

@@ -3,9 +3,9 @@ from functools import cached_property
 from math import inf
 from operator import itemgetter
 
+from streetsim.kernel.loop import Kernel
 from streetsim.model.inside import Inside
 from streetsim.simulation.errors import TraCIException
-from streetsim.simulation.simulation import Simulation
 from streetsim.simulation.street_facts import Facts
 from streetsim.simulation.view import View
 from streetsim.sumo.router import Router
@@ -19,9 +19,9 @@ class ShortestPaths:
     """Shortest ways over the links of a simulation's map, by the turns that its run has; no turn is added. Where an
     edge has parallel links, a way may begin and end on any of them."""
 
-    def __init__(self, simulation: Simulation, inside: Inside, view: View, facts: Facts) -> None:
+    def __init__(self, kernel: Kernel, inside: Inside, view: View, facts: Facts) -> None:
         """inside: metres inside junctions; view: whose speeds give the seconds; facts: with the limits of lanes."""
-        self.simulation, self.map, self.facts = simulation, simulation.map, facts
+        self.kernel, self.map, self.facts = kernel, kernel.map, facts
         self.inside, self.view = inside, view
         self.adapted: dict[str, float] = {}  # seconds that a script has set, by edge
         self.at_clock: tuple[int, Router] | None = None  # a clock, and the search by its travel times
@@ -50,7 +50,7 @@ class ShortestPaths:
     def quickest_path(self, origin: str, target: str) -> tuple[tuple[int, ...], float]:
         """(links of the quickest way from an edge to another, both whole, by the travel times at the clock; its
         seconds); TraCIException where there is none, or an edge is unknown."""
-        clock, links_of = self.simulation.clock, self.map.links_of
+        clock, links_of = self.kernel.clock, self.map.links_of
         if unknown := [edge for edge in (origin, target) if edge not in links_of]:
             raise TraCIException(f"Edge '{unknown[0]}' is not known.")
         if self.at_clock is None or self.at_clock[0] != clock:
@@ -86,7 +86,7 @@ class ShortestPaths:
         least, or its limit where it is empty; KeyError for an unknown edge."""
         if edge in self.adapted:
             return self.adapted[edge]
-        view, lanes = self.view, self.simulation.lanes_on(edge)
+        view, lanes = self.view, self.map.lanes(self.map.links_of[edge])
         positions = [view.positions[number] for lane in lanes for number in view.on_lane(lane)]
         speeds = [position.metres_a_second(self.map.links) for position in positions]
         limit = self.facts.lanes[self.map.lane_name(*lanes[0])].speed

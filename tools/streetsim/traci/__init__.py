@@ -75,7 +75,7 @@ def close(wait: bool = True) -> None:
         _sessions.clear()
         for domain in _domains:
             domain.forget()
-        session.close()
+        session.finish()
 
 
 def load(args: Sequence[str]) -> None:

@@ -11,7 +11,7 @@ ABSENT = (
 )
 
 
-class AbsentDomain(CallGroup[TraciSession]):
+class AbsentDomain(CallGroup):
     """A domain without an object; further calls raise NotHere, which says what to do instead."""
 
     def __init__(self, session: Callable[[], TraciSession], name: str) -> None:

@@ -19,7 +19,7 @@ VariableValues = dict[int, TraciValue]  # what is told, by variable
 MOST_LETTERS, OVERHEAD = 1 << 24, 100
 
 
-class Domain(CallGroup[TraciSession]):
+class Domain(CallGroup):
     """A domain of calls on objects of one kind."""
 
     kind = "Object"

@@ -9,13 +9,12 @@ from streetsim.model.mapping import Place
 from streetsim.simulation.calls import GAP, METRES, LaneCalls, StretchCalls, TrafficCalls
 from streetsim.simulation.columns import Column
 from streetsim.simulation.errors import NotHere, TraCIException
-from streetsim.simulation.session import TraciSession
 from streetsim.simulation.street_facts import LaneFacts
 from streetsim.traci import constants as tc
 from streetsim.traci.domain import Outlined
 
 
-class WithTraffic(Outlined, TrafficCalls[TraciSession]):
+class WithTraffic(Outlined, TrafficCalls):
     """A domain of lanes, edges or detectors, by the vehicles that are there."""
 
     default_variables = (tc.LAST_STEP_VEHICLE_NUMBER,)
@@ -37,7 +36,7 @@ class WithTraffic(Outlined, TrafficCalls[TraciSession]):
         return sum(lengths) / len(lengths) if lengths else 0.0
 
 
-class Stretches(WithTraffic, StretchCalls[TraciSession]):
+class Stretches(WithTraffic, StretchCalls):
     """A domain of what has a length, on which vehicles can stand."""
 
     def metres(self, name: str) -> float:
@@ -49,7 +48,7 @@ class Stretches(WithTraffic, StretchCalls[TraciSession]):
         return sum(self.lengths(name)) / self.metres(name)
 
 
-class LaneDomain(LaneCalls[TraciSession], Stretches):
+class LaneDomain(LaneCalls, Stretches):
     """As SUMO's traci.lane: metres, metres a second, seconds. TraCIException for one that is not imported."""
 
     kind, name = "Lane", "lane"
@@ -61,11 +60,6 @@ class LaneDomain(LaneCalls[TraciSession], Stretches):
     def subjects(self) -> Collection[str]:
         """The names of all."""
         return self.session().lane_of.keys()
-
-    def numbers(self, name: str) -> list[int]:
-        """The numbers of the vehicles on its cells, from the stop line; of an edge, lane after lane."""
-        on_lane = self.session().view.on_lane
-        return [number for link_lane in self.link_lanes(name) for number in on_lane(link_lane)]
 
     def speeds(self, name: str) -> list[float]:
         """Metres a second of the vehicles there, in the order of `numbers`."""

@@ -9,7 +9,6 @@ from streetsim.base.shapes import Point, lengths, nearest, point_along
 from streetsim.simulation.calls import SimulationCalls
 from streetsim.simulation.errors import NotHere, TraCIException
 from streetsim.simulation.saving import load_state, save_state
-from streetsim.simulation.session import TraciSession
 from streetsim.simulation.street_facts import LaneFacts
 from streetsim.traci import constants as tc
 from streetsim.traci.domain import Domain, VariableValues
@@ -34,7 +33,7 @@ class Stage:
     description: str = ""
 
 
-class SimulationDomain(Domain, SimulationCalls[TraciSession]):
+class SimulationDomain(Domain, SimulationCalls):
     """As SUMO's traci.simulation: seconds, metres; lists and counts are of the steps of the last simulationStep."""
 
     kind, name = "Simulation", "simulation"

@@ -44,7 +44,7 @@ class StopData:
     until: float
 
 
-class VehicleDomain(VehicleCalls[TraciSession], LookDomain, Outlined):
+class VehicleDomain(VehicleCalls, LookDomain, Outlined):
     """As SUMO's traci.vehicle: metres, metres a second, seconds; before it departs places and speeds are SUMO's value
     for "nowhere" (-1073741824). TraCIException for a vehicle that is not known or has ended."""
 
