@@ -14,8 +14,8 @@ from streetsim.model.runs import Run
 
 @dataclass(frozen=True, slots=True)
 class ScriptSettings:
-    """What a script asks of a run, as the words of streetsim-run have it, with the program that makes it, and the user's
-    own observers and controllers."""
+    """What a script asks of a run, as the words of streetsim-run have it; the program that makes it; and the user's own
+    observers and controllers."""
 
     rounds: int = 0  # runs that are made before, by which vehicles of the file give way without a light
     merging: bool = True
