@@ -7,7 +7,7 @@ import re
 from collections import Counter
 from collections.abc import Collection, Iterable, Iterator, Mapping, Sequence
 from dataclasses import dataclass
-from itertools import compress, pairwise
+from itertools import chain, compress, pairwise
 from statistics import fmean
 
 from streetsim.base.files import whole_file
@@ -181,16 +181,16 @@ def works_doubts(works: Iterable[tuple[str, int]], runs: Sequence[tuple[int, int
             yield f"{begin} met nobody{where}, as all vehicles had arrived by then"
 
 
-def plans_before(clock: int, run: Run) -> list[Sequence[int]]:
+def plans_before(clock: int, run: Run) -> Iterator[Sequence[int]]:
     """The plans (links) of the vehicles that wish to depart before a clock."""
-    return [*compress(run.plans(), (run.departs() < clock).tolist())]
+    return compress(run.plans(), (run.departs() < clock).tolist())
 
 
 def actuated_doubts(clock: int, run: Run, mapping: Map, lights: Sequence[str]) -> Iterator[str]:
     """A doubt where more than a tenth of the vehicles that wish to depart before a clock pass `lights`, which SUMO
     times by detectors and which show their listed seconds here."""
     ways = {(turn.link, turn.next): turn.light for turn in mapping.turns if turn.light and turn.light in lights}
-    plans = plans_before(clock, run) if ways else []
+    plans = [*plans_before(clock, run)] if ways else []
     passed = [{ways[pair] for pair in pairwise(plan) if pair in ways} for plan in plans]
     if (count := sum(map(bool, passed))) > MOST_ACTUATED * len(plans):
         most = [light for light, _ in Counter(light for met in passed for light in sorted(met)).most_common(MOST_NAMED)]
@@ -263,10 +263,13 @@ def length_doubts(clock: int, run: Run, mapping: Map) -> Iterator[str]:
     or shorter than in SUMO, as edges are whole cells."""
     cell_metres = [link.cells * link.cell_metres for link in mapping.links]
     sumo_metres = [link.metres for link in mapping.links]
-    plans = plans_before(clock, run)
-    metres = [sum(sum(map(lengths.__getitem__, plan)) for plan in plans) for lengths in (cell_metres, sumo_metres)]
+    metres = [
+        sum(sum(map(lengths.__getitem__, plan)) for plan in plans_before(clock, run))
+        for lengths in (cell_metres, sumo_metres)
+    ]
     if abs(metres[0] - metres[1]) > OTHER_LENGTH * metres[1]:
-        used = {link for plan in plans for link in plan if cell_metres[link] != sumo_metres[link]}
+        driven = {*chain.from_iterable(plans_before(clock, run))}
+        used = [link for link in driven if cell_metres[link] != sumo_metres[link]]
         order = sorted(used, key=lambda link: (-abs(cell_metres[link] - sumo_metres[link]), link))
         edges = ", ".join(dict.fromkeys(mapping.links[link].edge for link in order[:MOST_NAMED]))
         share = 100 * (metres[0] / metres[1] - 1)
