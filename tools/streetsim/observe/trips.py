@@ -4,6 +4,7 @@ from __future__ import annotations
 from collections import Counter
 from collections.abc import Collection, Iterable, Iterator, Mapping
 
+from streetsim.base.array_groups import numbers_in
 from streetsim.base.arrays import numpy as np
 from streetsim.control.bus_fleet import StopOutcome, dwells
 from streetsim.kernel.loop import Kernel, Observer
@@ -43,7 +44,7 @@ class TripsTable(Observer):
 
     def ends(self) -> Iterator[End]:
         """How each vehicle ended."""
-        for at, arrival in enumerate(self.arrival.tolist()):
+        for at, arrival in enumerate(numbers_in(self.arrival)):
             if arrival:
                 yield arrival, "arrived"
             else:
@@ -63,8 +64,8 @@ class TripRows(Collection[Entry]):
     def __iter__(self) -> Iterator[Entry]:
         """All of them."""
         get_rescues, get_stood = self.rescues.get, self.stood.get
-        extras = ((free, get_stood(at, 0), get_rescues(at, 0)) for at, free in enumerate(self.alone.tolist()))
-        planned = zip(self.departs.tolist(), self.lengths.tolist(), strict=True)
+        extras = ((free, get_stood(at, 0), get_rescues(at, 0)) for at, free in enumerate(numbers_in(self.alone)))
+        planned = zip(numbers_in(self.departs), numbers_in(self.lengths), strict=True)
         return trip_rows(zip(self.names, planned, self.table.ends(), extras, strict=True))
 
     def __len__(self) -> int:
