@@ -1,13 +1,10 @@
 """Equal numbers in columns of NumPy: groups of those that stand one behind the other, and their texts."""
 from __future__ import annotations
 
-from collections.abc import Callable, Iterator
-from typing import Any
+from collections.abc import Callable
 
 from streetsim.base.arrays import Array
 from streetsim.base.arrays import numpy as np
-
-AT_ONCE = 10_000  # entries that are made numbers of Python together
 
 
 def groups_of(keys: Array) -> tuple[Array, Array]:
@@ -46,9 +43,3 @@ def by_number(numbers: Array) -> Array:
     if low.max() >= 1 << 16:
         order = order[np.argsort((low[order] >> 16).astype(np.uint16), kind="stable")]
     return order
-
-
-def numbers_in(column: Array) -> Iterator[Any]:
-    """The entries of a column as numbers of Python, of which few are there at once."""
-    for begin in range(0, len(column), AT_ONCE):
-        yield from column[begin : begin + AT_ONCE].tolist()

@@ -3,8 +3,8 @@ from __future__ import annotations
 
 from collections import Counter
 from collections.abc import Collection, Iterable, Iterator, Mapping
+from itertools import islice
 
-from streetsim.base.array_groups import numbers_in
 from streetsim.base.arrays import numpy as np
 from streetsim.control.bus_fleet import StopOutcome, dwells
 from streetsim.kernel.loop import Kernel, Observer
@@ -12,7 +12,7 @@ from streetsim.kernel.seconds import Seconds
 from streetsim.model.mapping import Map
 from streetsim.model.runs import Run
 from streetsim.model.stops import bus_lines_of
-from streetsim.model.tables import Entry
+from streetsim.model.tables import AT_ONCE, Entry
 
 
 End = tuple[int | None, str]  # the clock of a vehicle's arrival, None: it has not arrived; and where it is
@@ -44,7 +44,7 @@ class TripsTable(Observer):
 
     def ends(self) -> Iterator[End]:
         """How each vehicle ended."""
-        for at, arrival in enumerate(numbers_in(self.arrival)):
+        for at, arrival in enumerate(self.arrival.tolist()):
             if arrival:
                 yield arrival, "arrived"
             else:
@@ -63,10 +63,13 @@ class TripRows(Collection[Entry]):
 
     def __iter__(self) -> Iterator[Entry]:
         """All of them."""
-        get_rescues, get_stood = self.rescues.get, self.stood.get
-        extras = ((free, get_stood(at, 0), get_rescues(at, 0)) for at, free in enumerate(numbers_in(self.alone)))
-        planned = zip(numbers_in(self.departs), numbers_in(self.lengths), strict=True)
-        return trip_rows(zip(self.names, planned, self.table.ends(), extras, strict=True))
+        get_rescues, get_stood, ends = self.rescues.get, self.stood.get, self.table.ends()
+        for begin in range(0, len(self), AT_ONCE):
+            part = slice(begin, begin + AT_ONCE)
+            alone = enumerate(self.alone[part].tolist(), begin)
+            extras = [(free, get_stood(at, 0), get_rescues(at, 0)) for at, free in alone]
+            planned = zip(self.departs[part].tolist(), self.lengths[part].tolist(), strict=True)
+            yield from trip_rows(zip(self.names[part], planned, islice(ends, len(extras)), extras, strict=True))
 
     def __len__(self) -> int:
         """How many there are."""
