@@ -11,6 +11,8 @@ from pathlib import Path
 
 TOP = Path(__file__).resolve().parents[1]
 CRATE = "street_sim"
+LIBRARY = "street_c"  # the crate of the engine in process
+LIBRARY_FILES = ("libstreetsim.a", "libstreetsim.so")
 # What a check of a crate reads.
 READ = ("src", "specs", "proofs")
 
@@ -18,6 +20,13 @@ READ = ("src", "specs", "proofs")
 def program(top: Path = TOP) -> Path:
     """The program's file, built or not."""
     return top / "crates" / CRATE / "out" / CRATE
+
+
+def library(top: Path = TOP) -> dict[str, Path]:
+    """The files of the engine's library, made or not, by their installed paths from the prefix; none in a repository
+    without its crate."""
+    there = (top / "crates" / LIBRARY).is_dir()
+    return {f"lib/streetsim/{name}": top / "library/out" / name for name in LIBRARY_FILES if there}
 
 
 def crates(top: Path = TOP, crate: str = CRATE) -> dict[str, list[str]]:

@@ -37,8 +37,10 @@ def forget(top: Path) -> None:
 
 
 def files_of(top: Path) -> dict[str, Path]:
-    """The files that were proved by their paths from the prefix under which they are installed."""
-    return {"libexec/streetsim/streetsim": built.program(top)}
+    """The files that were proved by their paths from the prefix under which they are installed: the program, and the
+    engine's library where it is made."""
+    library = {name: path for name, path in built.library(top).items() if path.is_file()}
+    return {"libexec/streetsim/streetsim": built.program(top), **library}
 
 
 def read(top: Path) -> Record:
@@ -57,7 +59,9 @@ def note(top: Path, said: Sequence[str]) -> None:
 
 def note_build(top: Path, said: Sequence[str] = ()) -> None:
     """As `note`, of the program alone: no edits were refused, so nothing can be packed of it."""
-    write(top, made_record(top, said, keep_functions(top, said)) | {"summary": ""})
+    record = made_record(top, said, keep_functions(top, said))
+    files = {name: total for name, total in record["files"].items() if name not in built.library(top)}
+    write(top, record | {"summary": "", "files": files})
 
 
 def knows(top: Path) -> bool:
@@ -92,6 +96,7 @@ def made_record(top: Path, gate_lines: Sequence[str], function_counts: dict[str,
         "crates": len(crates),
         "uncounted": [crate for crate in crates if crate not in function_counts],
         "sources": built.sum_of_sources(top),
+        "library": sum_of_crate(top, built.LIBRARY),
         "files": {name: built.sum_of_file(path) for name, path in files_of(top).items()},
     }
 
@@ -135,6 +140,8 @@ def why_not(top: Path) -> str | None:
         return "nothing here was proved by the whole gate: ./test proves it, edits included, and leaves the record"
     if record["sources"] != built.sum_of_sources(top):
         return f"the sources of {built.CRATE} are not those that were proved: ./test proves them"
+    if record.get("library") != sum_of_crate(top, built.LIBRARY):
+        return f"the sources of {built.LIBRARY} are not those that were proved: ./test proves them"
     for name, path in files_of(top).items():
         if not path.is_file() or built.sum_of_file(path) != record["files"].get(name):
             return f"{path.relative_to(top)} is not the file that was proved: ./test makes it"

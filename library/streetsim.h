@@ -9,6 +9,9 @@
  * - malloc, realloc and free are of one allocator, as of the C library. No call from a signal handler, or from the forked child of a
  *   process with threads.
  * - The longest line takes 128 KiB of the stack of the thread that calls.
+ *
+ * Every command is a line, as docs/LINES.md of the repository has them: load, meter, signal, lane and the others go by streetsim_line.
+ * What is asked most has a call of its own too. A step is a second, a cell 7.5 m, a speed cells a step.
  */
 #ifndef STREETSIM_H
 #define STREETSIM_H
@@ -44,7 +47,9 @@ void streetsim_close(struct streetsim_session *session);
  * length to bytes: 0 of a blank line. With STREETSIM_SHORT bytes is the length that is wanted. */
 uint32_t streetsim_line(struct streetsim_session *session, const unsigned char *line, size_t line_bytes, unsigned char *room, size_t room_bytes, size_t *bytes);
 
-/* The line of the last reply again. After STREETSIM_DONE of a typed call there is none, and bytes is 0. */
+/* The output of the last line or call that was served, however often it is asked for: the line of its reply. There is none after
+ * STREETSIM_DONE of a typed call or a blank line: bytes is 0. STREETSIM_SHORT (bytes: the length that is wanted) and STREETSIM_UNTOLD
+ * leave it to be asked for again. */
 uint32_t streetsim_reply(struct streetsim_session *session, unsigned char *room, size_t room_bytes, size_t *bytes);
 
 /* Makes steps, 0 to 10,000; clock: after them. */

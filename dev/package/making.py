@@ -86,6 +86,8 @@ def make(tree: Path, commit: str, out_folder: Path) -> int:
         files = [wheel.write(prefix, Path(place)), debian.build(tree, Path(place) / "log")]
         out_folder.mkdir(parents=True, exist_ok=True)
         deliver(files, out_folder)
+    if not built.library(tree).keys() <= proved.files_of(tree).keys():
+        print("package: without the engine's library, which ./test could not make", file=sys.stderr)
     return 0
 
 

@@ -1,4 +1,5 @@
-"""Manual pages of the commands, by Debian's help2man from what they say of themselves by --help."""
+"""Manual pages: of the commands, by Debian's help2man from what they say of themselves by --help; of the engine's
+library, by its header."""
 from __future__ import annotations
 
 import re
@@ -28,6 +29,36 @@ STATUS_OF_PROGRAM = """[EXIT STATUS]
 0 where all input was read to its end; 2 where a word is wrong; 1 where a file could not be read or written, memory was
 refused, or a tape or a kept session has a bad line. Standard error says which.
 """
+
+
+LIBRARY = """.TH STREETSIM 3 "" "streetsim {version}" "streetsim"
+.SH NAME
+streetsim \\- the engine of streetsim in the process of a program
+.SH SYNOPSIS
+.B #include <streetsim.h>
+.sp
+.B cc drive.c $(pkg-config --cflags --libs streetsim)
+.sp
+pkg-config gives the static library, which was proved; the shared one, which a C compiler made of it, lies beside it, in
+the folder that
+.B pkg-config --variable=libdir streetsim
+prints.
+.SH DESCRIPTION
+The header says it all:
+.sp
+.nf
+{header}.fi
+.SH SEE ALSO
+.BR streetsim (1),
+and the page library/README.html below share/doc/streetsim/html, with programs to begin from
+"""
+
+
+def library_page(header: str, version: str) -> str:
+    """The manual page of the engine's library, which is its header's text."""
+    lines = [line.replace("\\", "\\e").replace("-", "\\-") for line in header.splitlines()]
+    told = "".join(f"\\&{line}\n" if line[:1] in (".", "'") else f"{line}\n" for line in lines)
+    return LIBRARY.format(version=version, header=told)
 
 
 def help2man_text(command_help: CommandHelp) -> str:

@@ -1,10 +1,11 @@
-"""What is installed below a prefix, /usr or an environment, but for the tools themselves: programs, examples, pages,
-manual pages, completion and the record of what was proved."""
+"""What is installed below a prefix, /usr or an environment, but for the tools themselves: programs, the engine's
+library, examples, pages, manual pages, completion and the record of what was proved."""
 from __future__ import annotations
 
 import shutil
 from pathlib import Path
 
+import built
 import proved
 from package import asking, completion, manuals
 from package.pages import Pages
@@ -28,10 +29,22 @@ def write(text: str, to: Path) -> None:
 
 
 def programs(tree: Path, prefix: Path) -> None:
-    """The program, byte for byte, and the command that starts it."""
+    """The program and the engine's library, byte for byte, and the command that starts the program."""
     for name, path in proved.files_of(tree).items():
-        copy_file(path, prefix / name, 0o755)
+        copy_file(path, prefix / name, 0o755 if name.startswith("libexec/") else 0o644)
     copy_file(WRAPPER, prefix / "bin/streetsim", 0o755)
+
+
+def declarations(tree: Path, prefix: Path, version: str) -> None:
+    """What a program with the engine in its process is compiled with: the header, pkg-config's file, the manual page;
+    nothing where the library was not made."""
+    if not built.library(tree).keys() <= proved.files_of(tree).keys():
+        return
+    header = tree / "library/streetsim.h"
+    copy_file(header, prefix / "include/streetsim.h")
+    settings = (tree / "library/streetsim.pc").read_text(encoding="utf-8").replace("@VERSION@", version)
+    write(settings, prefix / "lib/pkgconfig/streetsim.pc")
+    write(manuals.library_page(header.read_text(encoding="utf-8"), version), prefix / "share/man/man3/streetsim.3")
 
 
 def examples(tree: Path, prefix: Path) -> None:
@@ -45,6 +58,7 @@ def examples(tree: Path, prefix: Path) -> None:
 def stage(tree: Path, prefix: Path, version: str, commit: str) -> None:
     """Puts all into a folder that stands for the prefix."""
     programs(tree, prefix)
+    declarations(tree, prefix, version)
     examples(tree, prefix)
     write(proved.page(proved.read(tree), version, commit), prefix / "share/doc/streetsim/PROVED")
     write(proved.installed_text(proved.read(tree)), prefix / proved.INSTALLED)

@@ -41,6 +41,16 @@ public:
         return census;
     }
 
+    // The full periods of a detector, the oldest first.
+    std::vector<streetsim_row> read(std::uint64_t meter) {
+        streetsim_running running{};
+        std::vector<streetsim_row> rows(32);
+        std::size_t count = 0;
+        check(streetsim_read(&handle_, meter, &running, rows.data(), rows.size(), &count));
+        rows.resize(count);
+        return rows;
+    }
+
 private:
     // The line that is told, with more room where it is wanted: nothing is served twice.
     std::string told(std::uint32_t status, std::size_t bytes) {
@@ -81,4 +91,6 @@ int main() {
     streetsim_census census = session.count();
     std::cout << "clock " << clock << ": " << census.arrived << " of " << census.admitted << " arrived\n"
               << session.line(R"({"cmd":"read","meter":0})");
+    for (const streetsim_row &row : session.read(0))
+        std::cout << "from " << row.start << ": " << row.passes << " passed\n";
 }

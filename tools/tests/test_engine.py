@@ -95,7 +95,9 @@ class Doors(Case):
 
     def test_cpp(self):
         said = self.drive("g++", "cpp/drive.cpp").splitlines()
-        self.assertEqual(said[2:], ["clock 60: 3 of 3 arrived", '{"now":[60,0,0,0,0],"rows":[[0,3,9,0]]}'])
+        self.assertEqual(
+            said[2:], ["clock 60: 3 of 3 arrived", '{"now":[60,0,0,0,0],"rows":[[0,3,9,0]]}', "from 0: 3 passed"]
+        )
 
     def test_each_request_for_memory_is_refused(self):
         said = self.drive("gcc", "c/starved.c", "-Wl,--wrap=malloc,--wrap=realloc")
@@ -105,10 +107,15 @@ class Doors(Case):
         if not shutil.which("cargo"):
             self.skipTest("no cargo")
         environment = {**os.environ, "CARGO_TARGET_DIR": str(self.folder / "target")}
-        command = ["cargo", "test", "--offline", "--quiet"]
+        folder, run = LIBRARY.parents[1] / "rust", ["cargo", "run", "--offline", "--quiet", "--example", "drive"]
         subprocess.run(
-            command, cwd=LIBRARY.parents[1] / "rust", env=environment, capture_output=True, check=True, timeout=600
-        )
+            ["cargo", "test", "--offline", "--quiet"], cwd=folder, env=environment, capture_output=True, check=True,
+            timeout=600,
+        )  # fmt: skip
+        done = subprocess.run(run, cwd=folder, env=environment, capture_output=True, text=True, check=True, timeout=600)
+        self.assertEqual(done.stdout.splitlines()[2:], [
+            "clock 60: 3 of 3 arrived", "from 0: 3 passed, on the cell in 0 steps",
+        ])  # fmt: skip
 
 
 class Found(Case):

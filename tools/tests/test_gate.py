@@ -50,7 +50,8 @@ class GateCase(RepositoryCase):
 
     def setUp(self):
         super().setUp()
-        for name in ("test", "dev/quick.py", "dev/modules.py", "tools/tests/packages.txt", "tools/tests/support.py"):
+        mine = ("test", "dev/engine_library.py", "dev/quick.py", "dev/modules.py")
+        for name in (*mine, "tools/tests/packages.txt", "tools/tests/support.py"):
             (self.top / name).parent.mkdir(exist_ok=True)
             shutil.copy(TOP / name, self.top / name)
         hidden = shutil.ignore_patterns("__pycache__")

@@ -31,6 +31,7 @@ from package.asking import CommandHelp, options
 from streetsim.base.program import MARK
 
 TOP = TOOLS.parent
+NO_LIBRARY = "no library of the engine: library/make makes it"
 VERSION = tomllib.loads((TOOLS / "pyproject.toml").read_text())["project"]["version"]
 NEEDED = {
     "debhelper": shutil.which("dh"),
@@ -226,10 +227,10 @@ class Packed(Case):
         record = (self.usr / "share/doc/streetsim/PROVED").read_text()
         self.assertEqual((self.venv / "share/doc/streetsim/PROVED").read_text(), record)
         sums = re.findall(r"^[0-9a-f]{64}  \S+$", record, re.MULTILINE)
-        self.assertEqual(len(sums), 1)
+        self.assertEqual(len(sums), len(proved.files_of(TOP)))
         for prefix in (self.usr, self.venv):
             told = self.do(["sha256sum", "-c"], prefix, "\n".join(sums) + "\n")
-            self.assertEqual(told.count(": OK\n"), 1)
+            self.assertEqual(told.count(": OK\n"), len(sums))
         self.assertIn(f"{built.sum_of_file(built.program(TOP))}  libexec/streetsim/streetsim\n", record)
         commit = self.do(["git", "rev-parse", "HEAD"], self.place / "one")
         for line in (f"Commit: {commit}", f"Gate: {proved.read(TOP)['gate']}\n", f"Version: {VERSION}\n"):
@@ -245,6 +246,21 @@ class Packed(Case):
                 asked = f'. "{script}"; COMP_WORDS=({path.name} --hel); COMP_CWORD=1; _streetsim {path.name} --hel; '
                 self.assertEqual(self.do(["bash", "-c", asked + 'echo "${COMPREPLY[@]}"']), "--help\n")
                 self.assertTrue(os.access(self.usr / "bin" / path.name, os.X_OK))
+
+    @unittest.skipUnless(built.library()["lib/streetsim/libstreetsim.a"].is_file(), NO_LIBRARY)
+    @needs_package("pkgconf", shutil.which("pkg-config"))
+    @needs_package("g++", shutil.which("g++"))
+    def test_the_engines_library_is_found_by_pkg_config(self):
+        for prefix in (self.usr, self.venv):
+            with self.subTest(prefix.name):
+                made, settings = self.folder / prefix.name, {"PKG_CONFIG_PATH": str(prefix / "lib/pkgconfig")}
+                words = self.do(["pkg-config", "--cflags", "--libs", "streetsim"], **settings).split()
+                source = (TOP / "library/c/drive.c").read_text().replace("../streetsim.h", "streetsim.h")
+                self.do(["gcc", self.write("drive.c", source), "-o", made, *words])
+                self.assertIn("clock 60: 3 of 3 arrived\n", self.do([made]))
+                self.assertEqual(self.do(["pkg-config", "--modversion", "streetsim"], **settings), f"{VERSION}\n")
+        page = gzip.open(self.usr / "share/man/man3/streetsim.3.gz", "rt").read().replace("\\-", "-")
+        self.assertIn("uint32_t streetsim_open(struct streetsim_session *session);\n", page)
 
     def test_what_is_installed_runs_by_itself(self):
         """The figures are those of the walk in tools/README.md; tools find the program, and that is started as told."""

@@ -1,5 +1,8 @@
 //! The engine of streetsim in the process of a program: [`Session`] opens one, serves lines and calls, and closes it when it is dropped.
 //! A session may go to another thread, and is used by one at a time. Nothing compares the declarations here with the library's.
+//!
+//! A step is a second and a cell 7.5 m; speeds are cells a step. `examples/drive.rs` loads a street, drives, and reads a detector;
+//! `docs/LINES.md` of the repository has all commands, which [`Session::line`] takes.
 use std::fmt;
 use std::marker::PhantomData;
 use std::ptr;
@@ -55,6 +58,36 @@ pub enum Place {
     Taken { clock: u64 },
 }
 
+/// What a detector summed over a full period.
+#[repr(C)]
+#[derive(Debug, Default, Clone, Copy, PartialEq, Eq)]
+pub struct Period {
+    /// Its first step.
+    pub start: u64,
+    /// Vehicles that passed.
+    pub passes: u64,
+    /// The sum of their speeds, in cells a step.
+    pub speeds: u64,
+    /// Steps with a vehicle on the cell.
+    pub occupied: u64,
+}
+
+/// The running period of a detector.
+#[repr(C)]
+#[derive(Debug, Default, Clone, Copy, PartialEq, Eq)]
+pub struct Running {
+    /// Its first step.
+    pub start: u64,
+    /// Steps that it has so far.
+    pub steps: u64,
+    /// Vehicles that passed.
+    pub passes: u64,
+    /// The sum of their speeds, in cells a step.
+    pub speeds: u64,
+    /// Steps with a vehicle on the cell.
+    pub occupied: u64,
+}
+
 /// Why a call gave nothing.
 #[derive(Debug, Clone, PartialEq, Eq)]
 pub enum Fault {
@@ -87,10 +120,13 @@ unsafe extern "C" {
     fn streetsim_count(session: *mut Handle, census: *mut Census) -> u32;
     fn streetsim_vehicle(session: *mut Handle, car: u64, row: *mut Row, plan: *mut u64, plan_links: usize, links: *mut usize) -> u32;
     fn streetsim_enter(session: *mut Handle, plan: *const u64, plan_links: usize, lane: u64, depart: u64, size: u64, car: *mut u64) -> u32;
+    fn streetsim_read(session: *mut Handle, meter: u64, running: *mut Running, rows: *mut Period, room: usize, count: *mut usize) -> u32;
 }
 
 const SHORT: u32 = 3;
+const UNTOLD: u32 = 4;
 const MOST_LINKS: usize = 1024;
+const MOST_PERIODS: usize = 32;
 
 /// An open session. It may move: the library keeps no address of the handle.
 pub struct Session {
@@ -189,6 +225,20 @@ impl Session {
         Ok((place_of(&row), self.plan[..links].to_vec()))
     }
 
+    /// What a detector has noted: the running period, and the last full ones, 32 at most, the oldest first.
+    ///
+    /// # Errors
+    /// `Other` where no detector has the number; `Untold` where the rows are kept, and memory was refused for telling them.
+    pub fn read(&mut self, meter: u64) -> Result<(Running, Vec<Period>), Fault> {
+        let (mut running, mut count) = (Running::default(), 0);
+        let mut rows = vec![Period::default(); MOST_PERIODS];
+        // SAFETY: as in `line`.
+        let status = unsafe { streetsim_read(&raw mut self.handle, meter, &raw mut running, rows.as_mut_ptr(), rows.len(), &raw mut count) };
+        self.done(status)?;
+        rows.truncate(count);
+        Ok((running, rows))
+    }
+
     fn told(&mut self, status: u32, bytes: usize) -> Result<String, Fault> {
         match status {
             0 => Ok(String::from_utf8_lossy(&self.room[..bytes]).into_owned()),
@@ -196,7 +246,7 @@ impl Session {
                 self.room.resize(bytes, 0);
                 self.reply()
             }
-            4 => Err(Fault::Untold),
+            UNTOLD => Err(Fault::Untold),
             _ => Err(Fault::Starved),
         }
     }
@@ -205,6 +255,7 @@ impl Session {
         match status {
             0 => Ok(()),
             SHORT | 5 => Err(Fault::Other(self.reply()?)),
+            UNTOLD => Err(Fault::Untold),
             _ => Err(Fault::Starved),
         }
     }
@@ -245,7 +296,9 @@ mod tests {
         assert_eq!(session.advance(60).unwrap(), 60);
         assert_eq!(session.count().unwrap().arrived, 3);
         assert!(matches!(session.vehicle(0).unwrap().0, Place::Arrived { .. }));
-        assert!(session.line(r#"{"cmd":"read","meter":0}"#).unwrap().contains("[0,3,"));
+        let (running, rows) = session.read(0).unwrap();
+        assert_eq!((running.start, running.steps, rows.len(), rows[0].passes, rows[0].speeds), (60, 0, 1, 3, 9));
+        assert!(matches!(session.read(1), Err(Fault::Other(reply)) if reply.contains("NoMeter")));
     }
 
     #[test]

@@ -17,6 +17,7 @@ from streetsim.base import limits
 from streetsim.base.client import Census, Commands, Row, Rows, Starved, Vehicle, read_reply
 from streetsim.base.files import Fault
 from streetsim.base.places import PREFIX, TOP
+from streetsim.base.program import Proof, proof_of, warn_of_proof
 
 VARIABLE = "STREETSIM_LIBRARY"
 INSTALLED_LIBRARY = "lib/streetsim/libstreetsim.so"  # from the prefix of what is installed
@@ -49,10 +50,13 @@ ARGUMENTS: dict[str, tuple[type[object], ...]] = {
 
 def find_library(path: str | None = None) -> str:
     """The path of the library that is given, else of the one that STREETSIM_LIBRARY names, else of the one that is
-    installed with the tools or was made in their repository; Fault where there is none."""
+    installed with the tools or was made in their repository; Fault where there is none. Tells once, on standard error,
+    of a library that no record names as made of what was proved."""
     found = path or os.environ.get(VARIABLE) or str(PREFIX / INSTALLED_LIBRARY if PREFIX else TOP / BUILT_LIBRARY)
     if not Path(found).is_file():
         raise Fault(f"{found}: no library of the engine: library/make makes it, or set {VARIABLE}")
+    if proof_of(found) is not Proof.PROVED:
+        warn_of_proof(Path(found), "library")
     return found
 
 
