@@ -33,10 +33,10 @@ def make(top: Path) -> str | None:
     return run(compiling(top, kit, archive), crate) or run([top / "library/make", archive], top)
 
 
-def run(words: Sequence[str | Path], folder: Path) -> str | None:
+def run(command: Sequence[str | Path], folder: Path) -> str | None:
     """Runs a command. The end of what it said where it failed or took too long, or none."""
     process = subprocess.Popen(
-        words, cwd=folder, stdin=subprocess.DEVNULL, stdout=subprocess.PIPE, stderr=subprocess.STDOUT, text=True,
+        command, cwd=folder, stdin=subprocess.DEVNULL, stdout=subprocess.PIPE, stderr=subprocess.STDOUT, text=True,
         errors="replace", start_new_session=True,
     )  # fmt: skip
     try:
@@ -44,8 +44,8 @@ def run(words: Sequence[str | Path], folder: Path) -> str | None:
     except subprocess.TimeoutExpired:
         os.killpg(process.pid, signal.SIGKILL)
         process.communicate()
-        return f"{words[0]} took more than {LONGEST} seconds"
-    return f"{words[0]}: status {process.returncode}: {said.strip()[-900:]}" if process.returncode else None
+        return f"{command[0]} took more than {LONGEST} seconds"
+    return f"{command[0]}: status {process.returncode}: {said.strip()[-900:]}" if process.returncode else None
 
 
 def compiling(top: Path, kit: Path, archive: Path) -> list[str | Path]:

@@ -43,7 +43,7 @@ def declarations(tree: Path, prefix: Path, version: str) -> None:
     header = tree / "library/streetsim.h"
     copy_file(header, prefix / "include/streetsim.h")
     settings = (tree / "library/streetsim.pc").read_text(encoding="utf-8").replace("@VERSION@", version)
-    write(settings, prefix / "lib/pkgconfig/streetsim.pc")
+    write(settings, prefix / "share/pkgconfig/streetsim.pc")
     write(manuals.library_page(header.read_text(encoding="utf-8"), version), prefix / "share/man/man3/streetsim.3")
 
 

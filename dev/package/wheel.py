@@ -21,10 +21,10 @@ def write(prefix: Path, folder: Path) -> Path:
     """Writes the wheel of what is staged; links are left out, as pip makes none."""
     paths = sorted(path for path in prefix.rglob("*") if path.is_file() and not path.is_symlink())
     names = {path: path.relative_to(prefix).as_posix() for path in paths}
-    data = {
+    by_place = {
         f"scripts/{name.removeprefix('bin/')}" if name.startswith("bin/") else f"data/{name}": path
         for path, name in names.items()
     }
     linked = (path for path in paths if path.suffix == ".so" or path.parent.parent.name == "libexec")
     programs = b"".join(path.read_bytes() for path in linked)
-    return folder / packing.write_wheel(folder, tag_of(programs), data)
+    return folder / packing.write_wheel(folder, tag_of(programs), by_place)

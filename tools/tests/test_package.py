@@ -253,7 +253,7 @@ class Packed(Case):
     def test_the_engines_library_is_found_by_pkg_config(self):
         for prefix in (self.usr, self.venv):
             with self.subTest(prefix.name):
-                made, settings = self.folder / prefix.name, {"PKG_CONFIG_PATH": str(prefix / "lib/pkgconfig")}
+                made, settings = self.folder / prefix.name, {"PKG_CONFIG_PATH": str(prefix / "share/pkgconfig")}
                 words = self.do(["pkg-config", "--cflags", "--libs", "streetsim"], **settings).split()
                 source = (TOP / "library/c/drive.c").read_text().replace("../streetsim.h", "streetsim.h")
                 self.do(["gcc", self.write("drive.c", source), "-o", made, *words])

@@ -155,18 +155,18 @@ def proof_note(path: str) -> dict[str, str]:
 
 
 @functools.cache
-def warn_of_proof(path: Path, what: str = "program") -> None:
+def warn_of_proof(path: Path, kind: str = "program") -> None:
     """Says on standard error that a program, or the library, is not known to be proved, and what to do; once in
     a process. Of one of which nothing is known a command says so once it is done, so that a fault is one line."""
     tops = [*path.parents, *([] if PREFIX else [TOP])]
     built = any((top / "build").is_file() for top in tops)
-    makes = "`./test`" if what == "library" else "`./build`"
+    makes = "`./test`" if kind == "library" else "`./build`"
     advice = f"{makes} makes the proved one" if built else "ask for a package that was proved"
     if proof_of(str(path)) is Proof.UNPROVED:
         print_line(f"NOT PROVED: this program was built without proofs: {advice}")
         return
     told = elsewhere()
-    line = f"this {what} is {told}" if told else f"not known to be proved: no record names this {what}: {advice}"
+    line = f"this {kind} is {told}" if told else f"not known to be proved: no record names this {kind}: {advice}"
     if "streetsim.cli.commands" in sys.modules:
         AT_END.append(line)
     else:
