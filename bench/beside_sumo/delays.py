@@ -99,9 +99,9 @@ def write_detectors(case, mapping, folder, seed, cycle, queues=True):
     net = read_net(str(case.net), ("passenger",), Report())
     lost = f'<edgeData id="lost" freq="{case.count_end}" file="lost-{seed}.xml" withInternal="true"/>'
     rows = [lost] if case.by_edges else []
-    for edge in approaches_of(mapping):
+    for edge, approach in approaches_of(mapping).items():
         lanes = net.edges[edge].lanes
-        rows += [] if case.by_edges else e3(case, net, edge, targets_of(net, edge), edge, seed)
+        rows += [] if case.by_edges else e3(case, net, edges_of(mapping, approach)[-1], edge, seed)
         rows += [
             f'<laneAreaDetector id="{edge}_{lane.index}" lane="{edge}_{lane.index}" pos="0" endPos="-0.1" '
             f'friendlyPos="true" freq="{cycle[edge]}" file="e2-{seed}.xml"/>'
@@ -111,17 +111,22 @@ def write_detectors(case, mapping, folder, seed, cycle, queues=True):
     (folder / f"detectors-{seed}.add.xml").write_text("<additional>\n" + "\n".join(rows) + "\n</additional>")
 
 
+def edges_of(mapping, approach):
+    """The edges of an approach, from the junction back."""
+    return [approach.edge, *(mapping.links[links[0]].edge for links in approach.edges_before)]
+
+
 def targets_of(net, edge):
     return sorted({one.target for one in net.connections if one.source == edge})
 
 
-def e3(case, net, edge, targets, name, seed):
-    """The rows of an e3 from an edge to next ones."""
-    lanes = net.edges[edge].lanes
+def e3(case, net, begin, edge, seed):
+    """The rows of an e3 from the begin of an approach, an edge, to the edges behind the approach's last one."""
+    lanes, targets = net.edges[begin].lanes, targets_of(net, edge)
     entry = min(ENTRY, lanes[0].metres / 2)
     return [
-        f'<e3Detector id="{name}" freq="{case.count_end}" file="e3-{seed}.xml" openEntry="true">',
-        *(f'<detEntry lane="{edge}_{lane.index}" pos="{entry}"/>' for lane in lanes),
+        f'<e3Detector id="{edge}" freq="{case.count_end}" file="e3-{seed}.xml" openEntry="true">',
+        *(f'<detEntry lane="{begin}_{lane.index}" pos="{entry}"/>' for lane in lanes),
         *(
             f'<detExit lane="{target}_{lane.index}" pos="{min(ENTRY, lane.metres / 2)}"/>'
             for target in targets for lane in net.edges[target].lanes
@@ -153,6 +158,27 @@ def lost_on_edges(case, folder, seed):
     }
 
 
+def waits_to_enter(folder, seed):
+    """{edge: seconds} that the vehicles which depart there wait together until they enter."""
+    waits = defaultdict(float)
+    for trip in ElementTree.parse(folder / f"trips-{seed}.xml").getroot():
+        waits[trip.get("departLane").rsplit("_", 1)[0]] += float(trip.get("departDelay"))
+    return waits
+
+
+def on_approaches(case, mapping, delays, waits):
+    """The delays of approaches, {edge: (vehicles, delay)}, from those that the detectors saw: with the waits to enter
+    at them (waits: of all vehicles, by edge), as streetsim counts them, and from edges with the edges before."""
+    by_approach = {}
+    for edge, approach in approaches_of(mapping).items():
+        edges = edges_of(mapping, approach)
+        seen = [delays[one] for one in (edges if case.by_edges else [edge]) if one in delays]
+        if edge in delays:
+            lost = sum(count * delay for count, delay in seen) + sum(waits[one] for one in edges)
+            by_approach[edge] = delays[edge][0], lost / delays[edge][0]
+    return by_approach
+
+
 def run_sumo(case, routes, folder, seed):
     """What the detectors saw: {edge: (vehicles, delay)} and {lane: the longest jam of each cycle, metres}."""
     if not (folder / f"done-{seed}").exists():
@@ -160,7 +186,8 @@ def run_sumo(case, routes, folder, seed):
         more = ",".join(map(str, (*case.additional, *lights, folder / f"detectors-{seed}.add.xml")))
         words = ["sumo", "-n", case.net, "-r", routes, "-a", more, "--end", case.count_end]
         drawn = ("--scale", THIN) if seed == LONE else ("--seed", seed)
-        run([*words, *drawn, "--no-step-log", "--no-warnings"], folder)
+        trips = "--tripinfo-output", f"trips-{seed}.xml"
+        run([*words, *drawn, *trips, "--no-step-log", "--no-warnings"], folder)
         (folder / f"done-{seed}").touch()
     delays, jams = lost_on_edges(case, folder, seed) if case.by_edges else {}, defaultdict(list)
     for one in [] if case.by_edges else ElementTree.parse(folder / f"e3-{seed}.xml").getroot():
@@ -185,8 +212,7 @@ def alone(case, mapping, routes, folder, cycle):
     """What a vehicle loses that nobody hinders: {edge: seconds} of each approach, the mean of all for the others."""
     write_detectors(case, mapping, folder, LONE, cycle, queues=False)
     write_greens(case, folder)
-    delays, _ = run_sumo(case, routes, folder, LONE)
-    delays = {edge: delays[edge] for edge in approaches_of(mapping) if edge in delays}
+    delays = on_approaches(case, mapping, run_sumo(case, routes, folder, LONE)[0], defaultdict(float))
     usual = mean_delay(delays.values())
     return defaultdict(lambda: usual, {edge: lost for edge, (_, lost) in delays.items()})
 
@@ -237,7 +263,10 @@ def mean_delay(pairs):
 
 def judged(case, folder, seeds, mapping, free):
     """The approaches with vehicles enough on both sides; free: what a vehicle loses in SUMO that nobody hinders."""
-    sumo_runs = [run_sumo(case, folder / "demand.rou.xml", folder, seed) for seed in seeds]
+    sumo_runs = []
+    for seed in seeds:
+        delays, jams = run_sumo(case, folder / "demand.rou.xml", folder, seed)
+        sumo_runs.append((on_approaches(case, mapping, delays, waits_to_enter(folder, seed)), jams))
     our_runs = [rows_of(folder, seed) for seed in seeds]
     for edge, approach in approaches_of(mapping).items():
         own_rows = [rows[edge] for rows in our_runs if edge in rows]
@@ -248,7 +277,7 @@ def judged(case, folder, seeds, mapping, free):
             continue
         lanes = [name for name in sumo_runs[0][1] if name.rsplit("_", 1)[0] == edge]
         jams = fmean(max(percentile(jams[lane], 0.95) for lane in lanes) for _, jams in sumo_runs)
-        queue = fmean(float(row["queue_95_m"]) for row in own_rows)
+        queue = fmean(min(float(row["queue_95_m"]), approach.metres) for row in own_rows)
         counted = mean_delay(theirs)
         delays = max(0.0, counted - free[edge]), mean_delay(ours)
         yield ComparedApproach(edge, approach.control, counts, delays, (jams, queue), counted)
@@ -395,11 +424,12 @@ def main_delays(argv: list[str]) -> int | None:
 
     Takes minutes a seed; needs sumo, sumo-tools.
 
-    An e3 of each approach begins where a departing vehicle stands and ends as far into the next edges (SUMO 1.15 ends
-    at an assertion where it lies nearer to their begins); an e2 lies on each of its lanes and tells the longest jam in
-    each cycle. In SUMO vehicles depart at the speed of traffic (departSpeed="max"), so that a departure is no delay. An
-    e3 counts as lost what a vehicle loses that nobody hinders: it drives below its speed by chance, and slower in
-    turns. So from each approach that is taken off which a tenth of the demand loses where all lights are green.
+    An e3 of each approach begins where a departing vehicle stands on its first edge and ends as far into the next edges
+    (SUMO 1.15 ends at an assertion where it lies nearer to their begins); an e2 lies on each lane of its last edge and
+    tells the longest jam in each cycle, so queues count here as far as that edge goes. In SUMO vehicles depart at the
+    speed of traffic (departSpeed="max"), so that a departure is no delay; the wait to enter is one on both sides. An e3
+    counts as lost what a vehicle loses that nobody hinders: it drives below its speed by chance, and slower in turns.
+    So from each approach that is taken off which a tenth of the demand loses where all lights are green.
     --calibrate: the loss of a stop, from lone crosses.
     """
     parser = shared.parser_of(main_delays, work=True)

@@ -209,10 +209,12 @@ ALL_WAY = (
     Case("left turn, one across", "allway", "wens", "sw", "we"),
     Case("right turn, one across", "allway", "wens", "se", "we"),
 )
+RIGHT_ON_RED = (Case("right turn (joining)", "traffic_light_right_on_red", "wens", "se", "we ew"),)
 CASES = {
     "one": Cases((0, 100, 200, 400, 600, 800, 1000, 1200), ONE_STREAM, lambda flow: 1500 if flow <= 200 else 1000),
     "stops": Cases((0, 100, 200, 400, 600, 800, 1000), STOPS, lambda _: 700),
     "all-way": Cases((0, 50, 100, 200, 300, 400, 600), ALL_WAY, lambda _: 700),
+    "right-on-red": Cases((0, 100, 200, 400, 600), RIGHT_ON_RED, lambda _: 1400),
 }
 
 
@@ -245,12 +247,13 @@ def draw(cases: Cases, theirs, ours, path):
 
 
 def main_junctions(argv: list[str]) -> int | None:
-    """Who passes lone junctions without a light against full streams, beside SUMO.
+    """Who passes lone junctions against full streams, beside SUMO.
 
     Takes minutes; needs sumo.
 
-    Cases: one (one stream that goes first), stops (stop signs), all-way (all have to stop). All junctions of some cases
-    stand in one network that netconvert makes. What SUMO wrote is kept in the folder of --work.
+    Cases: one (one stream that goes first), stops (stop signs), all-way (all have to stop), right-on-red (at a light of
+    90 s). All junctions of some cases stand in one network that netconvert makes. What SUMO wrote is kept in the folder
+    of --work.
     """
     parser = shared.parser_of(main_junctions, work=True)
     parser.add_argument("--cases", default="one", choices=CASES)

@@ -89,14 +89,16 @@ def main_lone_lights(argv: list[str]) -> int | None:
 
     Greens are 10 to 57 s, 300, 500 and 700 vehicles an hour come against. It prints how far the vehicles that pass in
     an hour are off, over all cases of a row; --all: also each case. All lights stand in one network that netconvert
-    makes. What SUMO wrote is kept in the folder of --work.
+    makes; --part has some rows alone, of which each part wants a folder. What SUMO wrote is kept in that of --work.
     """
     parser = shared.parser_of(main_lone_lights, work=True)
     parser.add_argument("--seed", type=int, default=1, help="of departures, and of SUMO")
+    parser.add_argument("--part", default="1-6", type=shared.numbers, help="FIRST-LAST of the rows, from 1 on")
     parser.add_argument("--all", action="store_true", help="also each case")
     parser.add_argument("--tools", default=shared.TOOLS, type=shared.whole_path, help="other tools than these")
     args = parser.parse_args(argv)
-    folder, every = shared.work_of(args), [street for row in ROWS.values() for street in row]
+    rows = {name: row for number, (name, row) in enumerate(ROWS.items(), 1) if number in args.part}
+    folder, every = shared.work_of(args), [street for row in rows.values() for street in row]
     junctions = [street.junction(number) for number, street in enumerate(every)]
     net, routes = prepare(junctions, folder, args.seed, "--tls.left-green.time 0 --tls.cycle.time 90")
     put_programs(net, [every[int(one.light[1:])].with_greens(one) for one in programs_of(net)])
@@ -104,7 +106,7 @@ def main_lone_lights(argv: list[str]) -> int | None:
     ours = capacities(run_here(net, routes, folder, args.program, args.tools))
     off = {street: ours[f"j{at}"] / theirs[f"j{at}"] - 1 for at, street in enumerate(every)}
     shared.print_heads("Lane | cases | difference, mean | absolute, mean | largest")
-    for name, row in ROWS.items():
+    for name, row in rows.items():
         print(row_text(name, [off[street] for street in row]))
     for at, street in enumerate(every) if args.all else ():
         passed = f"{theirs[f'j{at}']:.0f} an hour, here {ours[f'j{at}']:.0f} ({off[street]:+.0%})"

@@ -13,8 +13,10 @@ from streetsim.model.mapping import read_map
 from streetsim.sumo.converting import refuse_over_limits
 from streetsim.sumo.full import ways_of
 from streetsim.sumo.import_files import convert, write_run
+from streetsim.sumo.link_choice import MISSING_TURN, WRONG_LANE, LinkChoice
 from streetsim.sumo.links import limit_of
-from streetsim.sumo.net import SumoNet, read_net
+from streetsim.sumo.lit_ways import open_ways_of_junction
+from streetsim.sumo.net import NetConnection, SumoNet, read_net
 from streetsim.sumo.network import Options, names_of
 
 # Seconds for a metre by km/h, of SUMO 1.15's usual cars.
@@ -45,6 +47,29 @@ class Parts(unittest.TestCase):
             nearest = min(range(1, 7), key=lambda cells: abs((cells - 0.17) * 7.5 - kmh / 3.6))
             found = limit_of(SimpleNamespace(speed=kmh / 3.6), 0.17, range(1, 7), in_ring)
             self.assertEqual((found, nearest), (limit, limit), kmh)
+
+
+    def test_who_gives_way_by_lane(self):
+        """A street of two lanes, whose right one another street joins: that gives way to this lane, and with it the
+        turn that SUMO has not."""
+        ways = (("w", 0), "M"), (("w", 1), "M"), (("s", 0), "m")
+        connections = [
+            NetConnection(edge, "e", lane, lane, None, 0, state, request)
+            for request, ((edge, lane), state) in enumerate(ways)
+        ]
+        turns = {0: [(0, 0, 1)], 1: [(0, 1, 1)], 2: [(2, 0, 1), (2, 1, 1)]}
+        found = open_ways_of_junction(5, connections, {2: [0]}, turns)
+        self.assertEqual(found.ways, (((2, 0, 1),), ((0, 0, 1),), ((2, 1, 1),)))
+        self.assertEqual((found.yields, found.signs), (((0, 1, False), (2, 1, False)), "mMm"))
+
+    def test_who_goes_straight_on_does_not_take_a_lane_of_those_who_wait_for_gaps(self):
+        """Edge a has a link to b and one to c, where its vehicles wait; b has two."""
+        links = [SimpleNamespace(edge=edge, lanes=[0], closed=()) for edge in "aabbc"]
+        names = {"a": [0, 1], "b": [2, 3], "c": [4]}
+        waits = {("a", "c")}
+        choice = LinkChoice(links, names, [None] * 5, {("a", "b"), *waits}, waits, [(0, 0, 2), (1, 0, 4)])
+        costs = [choice.change_cost(*pair) for pair in ((0, 2), (0, 3), (1, 3), (0, 4))]
+        self.assertEqual(costs, [0.0, MISSING_TURN, WRONG_LANE, WRONG_LANE])
 
 
 class Written(Case):

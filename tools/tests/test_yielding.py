@@ -54,9 +54,11 @@ def short_mapping():
 class Scene:
     """A run whose seconds are written by hand, and the plans that the controller shows by them."""
 
-    def __init__(self, plans, mapping, green=(LEFT, STRAIGHT, RIGHT)):
-        """plans: the links of each vehicle; green: turns of the first GREEN seconds, where there is a light."""
-        phases = [[GREEN, [[*turn] for turn in sorted(green)]], [RED, [] if mapping.lit_ways else sorted(green)]]
+    def __init__(self, plans, mapping, green=(LEFT, STRAIGHT, RIGHT), later=()):
+        """plans: the links of each vehicle; green, later: turns of the first GREEN seconds, and of the RED ones, where
+        there is a light."""
+        second = later if mapping.lit_ways else sorted(green)
+        phases = [[GREEN, [[*turn] for turn in sorted(green)]], [RED, [[*turn] for turn in second]]]
         self.plan = {"cmd": "signal", "node": 0, "offset": 0, "phases": phases}
         vehicles = Vehicles()
         vehicles.add(range(len(plans)), [1] * len(plans), plans)
@@ -141,6 +143,20 @@ class WithoutALight(unittest.TestCase):
             scene = Scene([[0, 3], [1, 3]], street, green=(LEFT, (1, 0, 3), RIGHT))
             self.assertEqual(LEFT in scene.second(5, (0, {0: (1, 0)}), (1, {1: (cells, 2)})), goes)
 
+    def test_who_comes_from_a_ramp_needs_less_than_who_turns_into_a_street(self):
+        """Where streets become one and nobody turns off: 4.5 s are free, and 6.8 elsewhere, of 8 cells 3.8 and of 10
+        cells 4.9; at a slow turn and in a roundabout as elsewhere."""
+        street = open_mapping("mMM", straight=(1, 0, 3))
+        away = [replace(link, begin=1) if at > 3 else link for at, link in enumerate(street.links)]
+        ramp = replace(street, links=away)
+        slow = replace(ramp, turns=[replace(ramp.turns[0], speed=8.0), *ramp.turns[1:]])
+        ring = replace(ramp, rings=["e3"])
+        for mapping_of, cells, goes in (
+            (ramp, 8, False), (ramp, 10, True), (street, 10, False), (slow, 10, False), (ring, 10, False),
+        ):  # fmt: skip
+            scene = Scene([[0, 3], [1, 3]], mapping_of, green=(LEFT, (1, 0, 3), RIGHT))
+            self.assertEqual(LEFT in scene.second(5, (0, {0: (1, 0)}), (1, {1: (cells, 2)})), goes)
+
     def test_where_all_stop_who_came_first_goes_first(self):
         scene = Scene([[0, 3], [1, 4]], open_mapping("wwM", ((0, 1, False), (1, 0, False))))
         scene.second(4, (0, {0: (2, 2)}), (1, {1: (1, 0)}))
@@ -199,6 +215,15 @@ class Gaps(unittest.TestCase):
         scene.second(GREEN - 1, (0, {0: (1, 0)}), (1, {1: (1, 2)}))
         self.assertNotIn(LEFT, scene.second(GREEN + 1, (0, {2: (1, 0)})), "another one")
 
+    def test_one_that_stood_there_goes_when_those_who_stay_green_leave_a_gap(self):
+        """Left has red from GREEN on, and straight on green: one that stood inside goes as late as that."""
+        scene = Scene([[0, 3], [1, 4]], mapping(), later=[STRAIGHT])
+        for clock in range(GREEN - 1, GREEN + 2 * SNEAK_SECONDS):
+            self.assertNotIn(LEFT, scene.second(clock, (0, {0: (1, 0)}), (1, {1: (2, 2)})))
+        self.assertIn(LEFT, scene.second(GREEN + 2 * SNEAK_SECONDS, (0, {0: (1, 0)})))
+        red = Scene([[0, 3], [1, 4]], mapping(), later=[STRAIGHT])
+        self.assertNotIn(LEFT, red.second(GREEN + 1, (0, {0: (1, 0)})), "it came in the red")
+
     def test_who_follows_keeps_a_distance_of_the_turns_speed(self):
         """One that stood for 2 s and goes, and the next, which comes to the line a second later."""
         scene = Scene([[0, 3], [0, 3], [1, 4]], mapping())
@@ -225,6 +250,18 @@ class Gaps(unittest.TestCase):
         self.assertNotIn(LEFT, scene.second(5, (0, {0: (2, 2)})))
         self.assertNotIn(LEFT, scene.second(6, (0, {0: (1, 0)}), (1, {1: (2, 2)})))
         self.assertIn(LEFT, scene.second(8, (0, {0: (1, 0)})))
+
+    def test_in_a_red_one_joins_a_street_as_from_a_stop_sign(self):
+        """It waits for all who are seen, of 20 s; who follows goes 6.15 s later, in the green at once."""
+        joined = (1, 0, 3)
+        for cells, goes in ((36, False), (38, True)):
+            scene = Scene([[0, 3], [1, 3]], mapping(stops=(0,), straight=joined), green=(joined,))
+            scene.second(5, (0, {0: (1, 0)}))
+            self.assertEqual(LEFT in scene.second(6, (0, {0: (1, 0)}), (1, {1: (cells, 2)})), goes)
+        scene = Scene([[0, 3], [0, 3]], mapping(stops=(0,)), green=(STRAIGHT,))
+        self.assertIn(LEFT, [scene.second(clock, (0, {0: (1, 0)})) for clock in (5, 6, 7)][-1])
+        goes = [LEFT in scene.second(clock, (0, {1: (1, 0)}, [0] if clock == 8 else [])) for clock in range(8, 20)]
+        self.assertEqual(8 + goes.index(True) - 7, 6)
 
 
 class HeldBack(unittest.TestCase):

@@ -22,7 +22,7 @@ from streetsim.control.yielding_fronts import LONG_STAND, NOBODY, Fronts, LaneHe
 from streetsim.control.yielding_fullness import LitFullness
 from streetsim.control.yielding_plans import AS_PLANNED, CLOSED, OPENED, PlansInForce, ShownPhase
 from streetsim.control.yielding_sight import LinksAhead, LanesSeen
-from streetsim.control.yielding_ways import ALL_WAY, NO_CELL, NO_TURN, Lanes, MeetingTurn, Ways
+from streetsim.control.yielding_ways import ALL_WAY, AT_SIGN, NO_CELL, NO_TURN, Lanes, MeetingTurn, Ways
 from streetsim.kernel.loop import NEVER, Controller, Kernel, SentLine
 from streetsim.kernel.seconds import READY, Block
 from streetsim.model.mapping import Map
@@ -51,6 +51,7 @@ class Front:
     turn: int
     way: MeetingTurn
     since: int  # the clock since which it stands at the stop line, NEVER where it does not
+    after_stop: bool = False  # it goes in a red, as it may after a stop
 
     @property
     def stands(self) -> bool:
@@ -96,6 +97,7 @@ class YieldingTurns(Controller):
         self.heads, lanes = LaneHeads(self.lanes, self.links_ahead), len(self.lanes.length)
         self.left_at: dict[int, int] = {}  # by turn the clock at which one left by it
         self.free_at = np.full(lanes, float(LONG_AGO))  # by lane the clock from which on the next one may go
+        self.stop_free_at: dict[int, float] = {}  # the same of one that goes in a red after a stop
         self.held_cars: dict[int, int] = {}  # by lane who stood there in the last second and was to wait
         # By lane who waited there last, and until when.
         self.waited, self.waited_until = np.full(lanes, NOBODY, np.int32), np.full(lanes, LONG_AGO)
@@ -171,12 +173,14 @@ class YieldingTurns(Controller):
 
     def note_gone(self, clock: int, front: Front) -> None:
         """Notes that one went in the last second, and when the next one of its lane may."""
-        free_at = float(self.free_at[front.slot])
+        free_at = self.free_from(front)
         begin = free_at if clock - 1 - free_at < 1 else clock - 1
         self.heads.forget(front.slot)
         after_stand = AFTER_OPEN_STAND if front.way.sign else AFTER_STAND
         more = after_stand if clock - 1 - front.since >= LONG_STAND else 0.0
         self.free_at[front.slot] = begin + front.way.headway + more
+        if front.after_stop:
+            self.stop_free_at[front.slot] = begin + AT_SIGN
         self.left_at[front.turn] = clock
 
     def lively_lanes(self, clock: int) -> Array:
@@ -222,6 +226,8 @@ class YieldingTurns(Controller):
             elif front.stands and plans.is_green(front.turn):
                 self.held_cars[front.slot] = self.waited[front.slot] = front.car
                 self.waited_until[front.slot] = clock
+            elif self.waits_inside(clock, front):
+                self.waited_until[front.slot] = clock
         may_go[looks] = [turn in going for turn in fronts.turn[looks].tolist()]
         self.show(fronts.turn, may_go)
         if bool((looks & fronts.stand).all()) and all(self.is_blocked(clock, front) for front in looking):
@@ -250,6 +256,11 @@ class YieldingTurns(Controller):
         stopped = self.ways.may_stop[turn] & (fronts.since <= clock - 1)
         return self.plans.meets[turn] | (fronts.stand & ~self.plans.green[turn] & (late | stopped))
 
+    def waits_inside(self, clock: int, front: Front) -> bool:
+        """Whether one that waited in its green, which is over, still waits for those who go first and have green."""
+        is_late = self.waited[front.slot] == front.car and self.waited_until[front.slot] >= clock - SNEAK_SECONDS
+        return bool(is_late) and not self.plans.phase(front.turn).coming.isdisjoint(front.way.foes)
+
     def go_as_planned(self, clock: int, fronts: Fronts) -> Array:
         """Whether those who need not look for a gap are shown green; behind one that gave way they keep their
         distance."""
@@ -259,7 +270,11 @@ class YieldingTurns(Controller):
     def made_fronts(self, fronts: Fronts) -> list[Front]:
         """Some that are first, each by itself."""
         columns = (column.tolist() for column in (fronts.car, fronts.slot, fronts.turn, fronts.since))
-        return [Front(car, slot, turn, self.ways.all[turn], since) for car, slot, turn, since in zip(*columns)]
+        after_stop = (self.ways.may_stop[fronts.turn] & ~self.plans.green[fronts.turn]).tolist()
+        return [
+            Front(car, slot, turn, self.ways.all[turn], since, stopped)
+            for car, slot, turn, since, stopped in zip(*columns, after_stop)
+        ]
 
     def has_gap(self, clock: int, front: Front, lanes_seen: LanesSeen, going: set[int]) -> bool:
         """Whether one may go. going: the turns by which some are let go in this second."""
@@ -271,7 +286,8 @@ class YieldingTurns(Controller):
             return True
         gap_needed, is_urgent = self.gap_needed(clock, front), self.is_urgent(clock, front)
         for foe, gap in front.way.foes.items():
-            seconds, needed = lanes_seen.seconds.get(foe, NEVER), gap_needed + gap.seconds_more
+            more = gap.after_stop if front.after_stop else gap.seconds_more
+            seconds, needed = lanes_seen.seconds.get(foe, NEVER), gap_needed + more
             if not gap.is_met or seconds >= needed or (is_urgent and gap.gives_too and foe not in going):
                 continue
             if front.way.sign and self.goes_before(clock, front, foe, needed - seconds, lanes_seen):
@@ -284,11 +300,18 @@ class YieldingTurns(Controller):
             return False
         return True
 
+    def free_from(self, front: Front) -> float:
+        """The clock from which on one keeps its distance to who went before it."""
+        free_at = float(self.free_at[front.slot])
+        return max(free_at, self.stop_free_at.get(front.slot, LONG_AGO)) if front.after_stop else free_at
+
     def may_leave(self, clock: int, front: Front, lanes_seen: LanesSeen) -> bool:
         """Whether one may go where nobody comes: it keeps its distance, has stopped where it must, and nobody is in its
         way who passed."""
         way = front.way
-        if self.free_at[front.slot] > clock + HALF or (way.always_stops and not front.stands):
+        if self.free_from(front) > clock + HALF or (way.always_stops and not front.stands):
+            return False
+        if front.after_stop and self.plans.may_come(front.turn):
             return False
         since_passed, foes = lanes_seen.since_passed, way.foes
         return not any(since_passed[foe] < foes[foe].passing for foe in foes.keys() & since_passed.keys())

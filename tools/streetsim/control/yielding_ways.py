@@ -25,6 +25,7 @@ LOOKING, JOINING, AT_SIGN, IN_TURN = 2.55, 3.0, 6.15, 5.85
 OPEN_MORE, ENTERING_MORE, FAST_MORE, STOP_FAST_MORE, STOP_MORE = 2.1, 0.4, 3.3, 16.5, 9.5
 WIDER = 0.3  # seconds more for each further lane of a street that is crossed
 FACING_MORE = 4.5  # the same of one that is crossed from a stop sign, and stops or gives way too
+RAMP_MORE, RAMP_WIDER = 1.0, 0.9  # the same of a street that a ramp joins, and for each further lane of it
 # Seconds of standing without a light for which one needs a second less before one who comes, and before one that is
 # joined from a stop sign; and by sign those from which on one goes before those who give way too.
 PATIENCE, STOP_PATIENCE = 10.0, 8.0
@@ -41,6 +42,7 @@ class FoeGap:
     passing: int = 1  # seconds after it passed its stop line, until it is out of the way
     patience: float = PATIENCE
     gives_too: bool = False  # without a light
+    after_stop: float = 0.0  # seconds more that have to be free in a red, where one may go then after a stop
 
 
 @dataclass(slots=True)
@@ -89,6 +91,7 @@ class Ways:
         self.turn_count = Counter(way.slot for way in self.all)  # by slot
         self.number = {(way.slot, way.name[2]): at for at, way in enumerate(self.all)}
         self.speed = [turn.speed for turn in turns]
+        self.ramp_nodes = ramp_nodes(mapping)
         for node_ways in mapping.ways:
             self.set_foes(mapping, node_ways)
         gives = [way.gives for way in self.all]
@@ -108,42 +111,47 @@ class Ways:
         for sign, turns in zip(node_ways.signs, turns_by_way):
             for turn in turns:
                 self.all[turn].sign = sign
+        for turn in (turn for way in node_ways.stops for turn in turns_by_way[way] if turn != NO_TURN):
+            self.all[turn].may_stop = True
         for way, foe, beside in node_ways.yields:
             for turn in turns_by_way[way]:
                 foes = (other for other in turns_by_way[foe] if other not in turns_by_way[way])
                 met = (other for other in foes if NO_TURN not in (turn, other))
                 self.all[turn].foes.update((other, self.foe_gap(mapping, turn, other, beside)) for other in met)
-        for turn in (turn for way in node_ways.stops for turn in turns_by_way[way] if turn != NO_TURN):
-            self.all[turn].may_stop = True
         for turn in (turn for turns in turns_by_way for turn in turns if self.all[turn].sign):
             self.all[turn].headway = self.open_headway(mapping, self.all[turn])
 
     def foe_gap(self, mapping: Map, turn: int, foe: int, beside: bool) -> FoeGap:
         """What one needs who goes by a turn before one who goes by another."""
         own_way, foe_way = self.all[turn], self.all[foe]
-        if not own_way.sign:
-            return FoeGap(not beside)
         joins = self.joins(mapping, own_way, foe)
         fast = joins and self.speed[foe] > FAST
+        if not own_way.sign:
+            after_stop = self.seconds_more(mapping, STOP, foe_way, joins, fast) if own_way.may_stop else 0.0
+            return FoeGap(not beside, after_stop=after_stop)
         passing = 2 if fast or own_way.sign == ALL_WAY else 1
         patience = STOP_PATIENCE if own_way.sign == STOP and joins else PATIENCE
-        more = self.seconds_more(mapping, own_way, foe_way, joins, fast)
+        more = self.seconds_more(mapping, own_way.sign, foe_way, joins, fast)
+        if fast and self.speed[turn] > FAST and own_way.sign != STOP and own_way.node in self.ramp_nodes:
+            more = RAMP_MORE + RAMP_WIDER * (self.lane_count(mapping, foe_way) - 1)
         return FoeGap(True, more, passing, patience, foe_way.sign in URGENT)
 
-    def seconds_more(
-        self, mapping: Map, own_way: MeetingTurn, foe_way: MeetingTurn, joins: bool, fast: bool
-    ) -> float:
-        """Seconds more than at a light that have to be free; joins, fast: whether a street, or a fast one, is
-        joined."""
-        if own_way.sign == STOP and joins:
+    def seconds_more(self, mapping: Map, sign: str, foe_way: MeetingTurn, joins: bool, fast: bool) -> float:
+        """Seconds more than at a light that have to be free; sign: of one's own turn; joins, fast: whether a street, or
+        a fast one, is joined."""
+        if sign == STOP and joins:
             return STOP_FAST_MORE if fast else STOP_MORE
         if joins:
             return FAST_MORE if fast else ENTERING_MORE
-        links = mapping.links_of[mapping.links[foe_way.name[0]].edge]
-        wider = WIDER * (sum(len(mapping.links[link].lanes) for link in links) - 1)
-        if own_way.sign == STOP and foe_way.sign in URGENT:
+        wider = WIDER * (self.lane_count(mapping, foe_way) - 1)
+        if sign == STOP and foe_way.sign in URGENT:
             return FACING_MORE + wider
         return OPEN_MORE + wider
+
+    def lane_count(self, mapping: Map, way: MeetingTurn) -> int:
+        """The lanes of the street from which one comes by a turn."""
+        links = mapping.links_of[mapping.links[way.name[0]].edge]
+        return sum(len(mapping.links[link].lanes) for link in links)
 
     def joins(self, mapping: Map, own: MeetingTurn, foe: int) -> bool:
         """Whether two turns lead to one edge."""
@@ -156,6 +164,14 @@ class Ways:
             return AT_SIGN if own.sign == STOP else IN_TURN
         fast = any(self.joins(mapping, own, foe) and self.speed[foe] > FAST for foe in own.foes)
         return JOINING if fast else max(LOOKING, own.headway) if own.foes else own.headway
+
+
+def ramp_nodes(mapping: Map) -> set[int]:
+    """The nodes at which streets become one, and nobody turns off: but for those of roundabouts."""
+    edges_out = defaultdict[int, set[str]](set)
+    for link in mapping.links:
+        edges_out[link.begin].add(link.edge)
+    return {node for node, edges in edges_out.items() if len(edges) == 1 and edges.isdisjoint(mapping.rings)}
 
 
 class Lanes:
@@ -185,7 +201,7 @@ class Lanes:
         found = [HORIZON] * len(self.length)
         for way in ways.all:
             for foe, gap in way.foes.items():
-                if gap.seconds_more >= STOP_MORE:
+                if max(gap.seconds_more, gap.after_stop) >= STOP_MORE:
                     found[ways.all[foe].slot] = STOP_HORIZON
         return found
 

@@ -12,7 +12,7 @@ from streetsim.sumo.crossing import EdgePair
 from streetsim.sumo.links import Link
 
 MISSING_TURN = 0.5  # what a change between parallel links costs that SUMO has no connection for
-WRONG_LANE = 100.0  # the same from lanes that do not lead to an edge to which others wait for a gap
+WRONG_LANE = 100.0  # the same where others wait for a gap, to that edge or on these lanes
 OTHERS_LANE = 0.3  # the same of lanes that are open to more classes than others of the edge, where one may use both
 CROWDING = 0.2  # what a link costs each of whose lanes carries as much as its edge's links do on average
 MOST_KNOWN = 1 << 16  # routes whose open links and steps are kept
@@ -61,6 +61,7 @@ class LinkChoice:
         targets = Counter((links[link].edge, target) for link, target in self.leads)
         shared = {edge for (edge, _), count in targets.items() if count > 1}  # several links lead to one next edge
         self.unlike = shared & {edge for edge, _ in waiting}
+        self.with_waiting = {link for link, target in self.leads if (links[link].edge, target) in waiting}
         self.use: list[float] = [0] * len(links)  # vehicles that a link carries
         # (edge, next edge): in how many others' place a vehicle counts that waits for a gap
         self.weights: Mapping[EdgePair, float] = {}
@@ -142,8 +143,8 @@ class LinkChoice:
         if (link, following) in self.lanes_to:
             return 0.0
         edge, target = self.links[link].edge, self.links[following].edge
-        wrong = (edge, target) in self.waiting and (link, target) not in self.leads
-        return WRONG_LANE if wrong else MISSING_TURN
+        waits = (edge, target) in self.waiting or link in self.with_waiting
+        return WRONG_LANE if waits and (link, target) not in self.leads else MISSING_TURN
 
     def cheapest(self, ways: Sequence[OpenLinks], steps: Sequence[Step]) -> tuple[int, ...]:
         """The links of least cost, one for each of a vehicle's edges; of equal ones the first in order. What a link

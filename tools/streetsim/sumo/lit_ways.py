@@ -5,8 +5,8 @@ from collections.abc import Collection, Iterable, Iterator, Mapping, Sequence
 from functools import lru_cache
 
 from streetsim.model.waiting import ALWAYS_STOP, NodeWays, TurnKey
-from streetsim.sumo.conflicts import is_equal
-from streetsim.sumo.crossing import ANY_GREEN, GREEN, OPEN, STOPS_FIRST
+from streetsim.sumo.conflicts import is_equal, turns_by_movement
+from streetsim.sumo.crossing import ANY_GREEN, GREEN, OPEN, STOPS_FIRST, EdgePair
 from streetsim.sumo.net import MAJOR, ZIPPER, NetConnection, SumoNet, connections_of
 from streetsim.sumo.network import Network
 from streetsim.sumo.signals import light_of
@@ -32,35 +32,48 @@ def open_ways_of(net: SumoNet, network: Network) -> list[NodeWays]:
     """Who gives way at each junction without any light, whatever the demand. Junctions right before left are left out,
     which have rounds (conflicts), those with a connection whose request is not known, and zippers, where both go by
     turns (merges)."""
-    turns, number = turns_by_way(network), {name: at for at, name in enumerate(network.nodes)}
+    added, number = turns_by_movement(network, True), {name: at for at, name in enumerate(network.nodes)}
     node_ways = (
-        open_ways_of_junction(number[junction], connections, net.yields.get(junction, {}), turns)
+        open_ways_of_junction(
+            number[junction], connections, net.yields.get(junction, {}),
+            {one.request: turns_of(one, network, added) for one in connections},
+        )
         for junction, connections in connections_of(net).items()
         if junction in number and not is_equal(connections)
         and not any(one.light or one.request is None for one in connections)
-    )
+    )  # fmt: skip
     return [ways for ways in node_ways if ways.yields or any(sign in ALWAYS_STOP for sign in ways.signs)]
 
 
+def turns_of(
+    connection: NetConnection, network: Network, added: Mapping[EdgePair, Iterable[TurnKey]]
+) -> list[TurnKey]:
+    """The turn of a connection, and those between its edges that SUMO has not; added: these, by (edge, next edge)."""
+    link, _ = network.place_of[connection.target, connection.target_lane]
+    own = (*network.place_of[connection.source, connection.source_lane], link)
+    return [own, *(turn for turn in added.get((connection.source, connection.target), ()) if turn != own)]
+
+
 def open_ways_of_junction(
-    node: int, connections: Sequence[NetConnection], yields: Yields, turns: Mapping[WayKey, list[TurnKey]]
+    node: int, connections: Sequence[NetConnection], yields: Yields, turns: Mapping[int | None, Sequence[TurnKey]]
 ) -> NodeWays:
-    """Who gives way at one node without a light; lanes of one edge do not give way to each other."""
+    """Who gives way at one node without a light, by lane: who joins a lane of a street does not give way to those who
+    go on by another one; lanes of one edge do not give way to each other. turns: by request."""
     by_request = {connection.request: connection for connection in connections}
-    signs: dict[WayKey, str] = {}
-    pairs: dict[tuple[WayKey, WayKey], None] = {}
+    signs: dict[TurnKey, str] = {}
+    pairs: dict[tuple[TurnKey, TurnKey], None] = {}
     for request, connection in by_request.items():
         foes = (by_request[at] for at in sorted(yields.get(request or 0, ())) if at in by_request)
         met = [one for one in foes if one.source != connection.source and not connection.state == one.state == ZIPPER]
         if met or connection.state in ALWAYS_STOP:
-            signs[way_key(connection)] = connection.state
-        pairs.update(dict.fromkeys((way_key(connection), way_key(foe)) for foe in met))
-    named = dict.fromkeys([key for pair in pairs for key in pair] + [*signs])
-    known = [key for key in named if turns.get(key)]
-    places = {key: place for place, key in enumerate(known)}
-    found = sorted((places[own], places[foe], False) for own, foe in pairs if own in places and foe in places)
-    letters = "".join(signs.get(key, MAJOR) for key in known)
-    return NodeWays(node, tuple(tuple(turns[key]) for key in known), tuple(found), (), letters)
+            signs.update(dict.fromkeys(turns[request], connection.state))
+        pairs.update(dict.fromkeys((own, foe) for one in met for own in turns[request] for foe in turns[one.request]))
+    known = list(dict.fromkeys([turn for pair in pairs for turn in pair] + [*signs]))
+    places = {turn: place for place, turn in enumerate(known)}
+    found = sorted((places[own], places[foe], False) for own, foe in pairs)
+    return NodeWays(
+        node, tuple((turn,) for turn in known), tuple(found), (), "".join(signs.get(turn, MAJOR) for turn in known)
+    )
 
 
 def turns_by_way(network: Network) -> dict[WayKey, list[TurnKey]]:
