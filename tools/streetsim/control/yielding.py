@@ -8,7 +8,7 @@ streets with lefts against right turns one that waits 1 or 2 s longer behind who
 the sample town. Those without a light began from SUMO's seconds at lone junctions with one that goes first, then were
 chosen on lone junctions with all streams (bench/run all-streams: 200 and 400 vehicles an hour, seed 1; 100 to 400, seed
 11, who stands for long before minor ones that face it; lone-trips) and on 14 networks (bench/run unlit, seed 4102, one
-run each).
+run each), those of ramps by lone-merges, seed 5. In a red after a stop the seconds are those of stop signs.
 """
 from __future__ import annotations
 
