@@ -184,6 +184,7 @@ class Files(Case):
         run = run_of_texts("", lines)
         [enter] = run.enters
         enter.command["plan"][0] = mapping.links_of["way"][0]
+        run.enters = [enter]
         plan = planned(run, mapping)
         self.assertEqual([one.stop for one in plan.visits], ["second"])
         stops = BusFleet(plan, run, mapping).stop_outcomes()
