@@ -20,6 +20,8 @@ NAME = "setting.json"
 LIGHTS = "lights.json"  # what its lights show at the road, of a run with --junctions, as model.timing has it
 POLLS = "lanes.jsonl.gz"  # what stood on the lanes at polls, as text
 RUN_LINES = "run.jsonl.gz"  # the lines of the run, beside the folders of its seeds where there are several
+# Tables that have got columns since version 1.0.0.
+GROWN_TABLES = {"movements": tables.MOVEMENTS, "approaches": tables.APPROACHES, "junctions": tables.JUNCTIONS}
 Frame = Json  # what stood on lanes at a clock: {"clock", "lanes"}, as `polls` says
 
 
@@ -47,8 +49,19 @@ class Folder:
 
     @property
     def notes(self) -> list[str]:
-        """What each page of the run has at its head: that its program is not known to be proved, or demand invented."""
-        return [text for text in (self.unproved, self.mapping.invented) if text]
+        """What each page of the run has at its head: that its program is not known to be proved, demand invented, or
+        its tables of an earlier version."""
+        return [text for text in (self.unproved, self.mapping.invented, self.lacking) if text]
+
+    @property
+    def lacking(self) -> str:
+        """What is to be said where tables lack columns, as those of earlier versions do; empty where none does."""
+        texts = []
+        for name, header in GROWN_TABLES.items():
+            path = f"{self.path}/{name}.csv"
+            if os.path.exists(path) and (absent := tables.absent_columns(path, header)):
+                texts.append(f"{name}.csv has no {', '.join(absent)}")
+        return f"tables of an earlier version: {'; '.join(texts)}: these are not told or compared" if texts else ""
 
     @property
     def vehicles(self) -> int:

@@ -192,6 +192,14 @@ def table_parts(
             yield names, absent, [texts_without_guards(column) for column in columns]
 
 
+def absent_columns(path: FilePath, header: Sequence[str]) -> list[str]:
+    """The columns of `header` that a table does not have, as one of an earlier version; Fault where it cannot be
+    read."""
+    with reading(path), open_text(path) as file:
+        names: list[str] = next(csv.reader(lines_of(file)), [])
+    return [name for name in header if name not in names]
+
+
 def has_twice(names: Sequence[str]) -> bool:
     """Whether a name is there more than once."""
     return len({*names}) < len(names)
