@@ -3,7 +3,7 @@
  *
  * What a caller owes
  * - A handle is all zeros before streetsim_open, and is never copied or written by the caller after.
- * - Each pointer is to memory that is there for the call and was written before; no two of a call overlap. A room of 0 bytes or rows is
+ * - Each pointer is to memory that is there for the call and is initialised, outputs too; no two of a call overlap. A room of 0 bytes or rows is
  *   given by a pointer that is not null.
  * - One call at a time has a handle. It may go from thread to thread, by a lock, a thread's start or a join.
  * - malloc, realloc and free are of one allocator, as of the C library. No call from a signal handler, or from the forked child of a
@@ -30,17 +30,18 @@ struct streetsim_session {
 /* What a call returns. The state after it is said beside each. */
 enum {
     STREETSIM_DONE = 0,    /* done; what the call tells is written */
-    STREETSIM_STARVED = 1, /* memory was refused: nothing was done */
+    STREETSIM_STARVED = 1, /* memory was refused: nothing was done, and the output before stays (a typed call may give OTHER instead) */
     STREETSIM_MISUSED = 2, /* no session is open (of streetsim_open: one is): nothing was done */
-    STREETSIM_SHORT = 3,   /* served; too little room for what it tells: streetsim_reply gives it, and nothing is served twice */
+    STREETSIM_SHORT = 3,   /* served; too little room for a line or a list, which streetsim_reply gives; nothing is served twice */
     STREETSIM_UNTOLD = 4,  /* served; memory for the line of its reply was refused: streetsim_reply makes it */
-    STREETSIM_OTHER = 5    /* served; another reply, as a refusal, or that memory ran out: streetsim_reply gives its line */
+    STREETSIM_OTHER = 5    /* of typed calls: the reply is another one, as a refusal, a fault or {"starved":true}; streetsim_reply gives its line.
+                            * streetsim_line gives all these as its reply, by STREETSIM_DONE */
 };
 
 /* A session with nothing loaded. */
 uint32_t streetsim_open(struct streetsim_session *session);
 
-/* Closes a session and frees its memory; does nothing to a closed one. */
+/* Closes a session and frees its memory; does nothing to a closed one. The handle may be opened again. */
 void streetsim_close(struct streetsim_session *session);
 
 /* Serves a line, given without its line feed, as the program serves it. The reply's line, with its line feed, goes to the start of room, its
@@ -79,7 +80,7 @@ struct streetsim_vehicle {
     uint64_t step;  /* from which it may go on (buffer) or depart (waiting), of its arrival, or the clock when it was taken out */
 };
 
-/* Where a vehicle is; plan: the identifiers of the links that remain, the present one included, links of them. */
+/* Where a vehicle is; plan: the identifiers of the links that remain, the present one included; links: how many. */
 uint32_t streetsim_vehicle(struct streetsim_session *session, uint64_t car, struct streetsim_vehicle *vehicle, uint64_t *plan, size_t plan_links, size_t *links);
 
 /* Admits a vehicle. plan: identifiers of its links in order; lane: of the first; depart: the step from which it may enter; size: its

@@ -5,13 +5,14 @@
 
 static unsigned char room[1 << 16];
 
-/* Sends a line and prints its reply. */
+/* Sends a line and prints its reply. Whether the command was done: a refusal is a reply that begins with {"error": or {"at":, and one that
+ * says {"starved":true} may be sent again. */
 static int say(struct streetsim_session *session, const char *line) {
     size_t bytes = 0;
     uint32_t status = streetsim_line(session, (const unsigned char *)line, strlen(line), room, sizeof room, &bytes);
     if (status == STREETSIM_DONE)
         fwrite(room, 1, bytes, stdout);
-    return status == STREETSIM_DONE;
+    return status == STREETSIM_DONE && memcmp(room, "{\"error\"", 8) && memcmp(room, "{\"at\"", 5) && memcmp(room, "{\"starved\"", 10);
 }
 
 int main(void) {

@@ -1,6 +1,8 @@
 //! The engine of streetsim in the process of a program: [`Session`] opens one, serves lines and calls, and closes it when it is dropped.
 //! A session may go to another thread, and is used by one at a time. Nothing compares the declarations here with the library's.
 //!
+//! The longest line takes 128 KiB of the stack of the thread that calls.
+//!
 //! A step is a second and a cell 7.5 m; speeds are cells a step. `examples/drive.rs` loads a street, drives, and reads a detector;
 //! `docs/LINES.md` of the repository has all commands, which [`Session::line`] takes.
 use std::fmt;
@@ -91,11 +93,12 @@ pub struct Running {
 /// Why a call gave nothing.
 #[derive(Debug, Clone, PartialEq, Eq)]
 pub enum Fault {
-    /// Memory was refused; nothing was done.
+    /// Memory was refused; nothing was done. `Other` may say so too, by the line `{"starved":true}`.
     Starved,
     /// The command was done, and memory for its reply was refused: [`Session::reply`] gives it.
     Untold,
-    /// The command has this reply: a refusal, or that memory ran out after some steps.
+    /// The reply is this line: a refusal, `{"starved":true}` where memory was refused and nothing was done, or `{"clock":T,"short":K}`
+    /// where it ran out after K steps.
     Other(String),
 }
 
@@ -153,7 +156,8 @@ impl Session {
         }
     }
 
-    /// The reply's line to a line of the program's; empty to a blank one.
+    /// The reply's line, with its line feed, to a line of the program's; empty to a blank one. A refusal, a fault of the line and
+    /// `{"starved":true}` are replies too, and so `Ok`: look for `"error"` and `"starved"`.
     ///
     /// # Errors
     /// `Starved` where nothing was done, `Untold` where it was.
@@ -166,7 +170,7 @@ impl Session {
         self.told(status, bytes)
     }
 
-    /// The line of the last reply again.
+    /// The line of the last reply again; empty after a typed call that was done.
     ///
     /// # Errors
     /// `Untold` where memory for it was refused again.
