@@ -124,7 +124,7 @@ class Missing(Case):
         first = {"plans": [], "files": {}, "packs": {}, "words": [], "beside": [], "tools": "", "drawn_by": "3.6.3"}
         for content, whose in (
             (first, "sealed in the form of streetsim 1.0.0: that version checks it"),
-            ({"form": 2, **first}, "sealed in form 2, by the tools up to commit da17d40c, in which who gives way"),
+            ({"form": 2, **first}, "sealed in form 2, by the tools up to commit da17d40c, in which vehicles gave way"),
         ):
             page = self.write("old.html", BEGIN + json.dumps(content) + END)
             status, told = tool("check", page, "--program", "/bin/true")
