@@ -126,7 +126,7 @@ class Assumptions(unittest.TestCase):
     def test_capacity(self):
         """The page says the gaps and headways by which runs go, and those of the import's estimate."""
         [told] = [text for text in ASSUMPTIONS if text.startswith("Capacity")]
-        self.assertIn(f"({yielding.STANDING_GAP} s, and {yielding.ROLLING_GAP} s before one who rolls)", told)
+        self.assertIn(f"({yielding.STANDING_GAP} s, and {yielding.ROLLING_GAP} s before a vehicle that rolls)", told)
         self.assertIn(f"gaps of {gaps.CRITICAL_GAP} s, {gaps.FOLLOW_UP} s for each further vehicle", told)
         self.assertEqual(lane_capacity.SNEAKERS, 1)
         self.assertIn(f"one in {headway(USUAL_SPEED):.1f} s of green", told)
