@@ -93,12 +93,11 @@ pub struct Running {
 /// Why a call gave nothing.
 #[derive(Debug, Clone, PartialEq, Eq)]
 pub enum Fault {
-    /// Memory was refused; nothing was done. `Other` may say so too, by the line `{"starved":true}`.
+    /// Memory was refused; nothing was done.
     Starved,
     /// The command was done, and memory for its reply was refused: [`Session::reply`] gives it.
     Untold,
-    /// The reply is this line: a refusal, `{"starved":true}` where memory was refused and nothing was done, or `{"clock":T,"short":K}`
-    /// where it ran out after K steps.
+    /// The reply is this line: a refusal, or `{"clock":T,"short":K}` where memory ran out after K steps.
     Other(String),
 }
 
@@ -130,6 +129,8 @@ const SHORT: u32 = 3;
 const UNTOLD: u32 = 4;
 const MOST_LINKS: usize = 1024;
 const MOST_PERIODS: usize = 32;
+/// The reply where memory was refused and nothing was done.
+const STARVED: &str = "{\"starved\":true}\n";
 
 /// An open session. It may move: the library keeps no address of the handle.
 pub struct Session {
@@ -258,7 +259,10 @@ impl Session {
     fn done(&mut self, status: u32) -> Result<(), Fault> {
         match status {
             0 => Ok(()),
-            SHORT | 5 => Err(Fault::Other(self.reply()?)),
+            SHORT | 5 => Err(match self.reply()? {
+                line if line == STARVED => Fault::Starved,
+                line => Fault::Other(line),
+            }),
             UNTOLD => Err(Fault::Untold),
             _ => Err(Fault::Starved),
         }
