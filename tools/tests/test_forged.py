@@ -248,8 +248,8 @@ RUN, MAP = "plan-1/zero.jsonl", "plan-1/map.json"
 ELSEWHERE = {"net": "/dev/zero", "additional": ["../../x"], "routes": [], "trips": [], "sums": ["0", "0"], "run": "0"}
 # What an opponent does to a seal, all its sums and what the page shows of it made to fit; the status, and what is told.
 REFUSED = {
-    "help": (with_again("--help"), "words that the tools do not keep: they ask for help"),
-    "help of the page": (with_words("--help"), "words that the tools do not keep: they ask for help"),
+    "help": (with_again("--help"), "options that the tools do not keep: they ask for help"),
+    "help of the page": (with_words("--help"), "options that the tools do not keep: they ask for help"),
     "another program": (with_both("--program=/bin/false"), "not keep: --program=/bin/false"),
     "a session kept elsewhere": (with_both("--keep=/tmp/forged"), "not keep: --keep=/tmp/forged"),
     "results elsewhere": (with_both("--out=/tmp/forged"), "not keep: --out=/tmp/forged"),
