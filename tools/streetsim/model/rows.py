@@ -103,6 +103,8 @@ def parts_of(
                 raise TooMuch(f"has more than {MOST_ENTRIES:,} rows or seconds in one part")
             if len(packed_data := file.read(size)) < size:
                 raise ValueError("cut off")
+            if clock + seconds > CLOCK + 1:
+                raise ValueError("beyond the greatest clock")
             clocks = np.arange(clock, clock + seconds)
             is_looked_at = (clocks % every == 0) & (clocks >= first_clock) & (clocks <= last_clock)
             if not (closed or is_looked_at.any()):
