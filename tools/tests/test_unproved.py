@@ -46,7 +46,7 @@ class Unproved(Case):
         self.assertIn(UNPROVED_NOTE, (self.folder / "r.html").read_text())
         self.tool("play", self.out, "-o", self.folder / "p.html")
         packed = re.findall(r"[A-Za-z0-9+/=]{1000,}", (self.folder / "p.html").read_text())
-        [played] = json.loads(gzip.decompress(base64.b64decode(max(packed, key=len))))
+        [played] = json.loads(gzip.decompress(base64.b64decode(max(packed, key=len))).partition(b"\n")[0])
         self.assertEqual(played["name"], "out (NOT PROVED)")
         counts = self.folder / "counts.csv"
         counts.write_text("begin,end,from,to,vehicles\n0,300,WJ1,,40\n")
