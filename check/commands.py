@@ -10,11 +10,12 @@ from __future__ import annotations
 
 import re
 import sys
-from collections.abc import Callable, Iterable
+from collections.abc import Iterable
 from dataclasses import dataclass
-from pathlib import Path
 
-TOP = Path(__file__).resolve().parents[1]
+import places
+from places import TOP, Reader, read_text
+
 # The word of each command in a line, by its name in the code.
 WORDS = {
     "Load": "load", "Enter": "enter", "Signal": "signal", "Advance": "advance", "CloseLane": "close",
@@ -23,27 +24,19 @@ WORDS = {
 }
 # Names under which the definitions import a command, since others have its own.
 ALIASES = {"AskVehicle": "Vehicle", "AskLane": "Lane"}
-Reader = Callable[[Path], str]
 
 
 @dataclass(frozen=True)
-class Place:
-    """Files from the top, what in them names a command, and from which line to which these names stand."""
+class Place(places.Place):
+    """Where commands stand, by their names or words; in a cell several may."""
 
-    files: tuple[str, ...]
-    named: str
-    begin: str = ""
-    end: str = "\0"
     # The commands that stand there, where it is not all: those that say something else than the others.
     some: tuple[str, ...] = ()
 
     def commands(self, read: Reader) -> set[str]:
         """The names of the commands that stand there."""
         by_word = {word: name for name, word in WORDS.items()}
-        texts = [read(path) for name in self.files for path in sorted(TOP.glob(name))]
-        parts = [(text.partition(self.begin)[2] if self.begin else text).partition(self.end)[0] for text in texts]
-        cells = [cell for text in parts for cell in re.findall(self.named, text, re.MULTILINE)]
-        found = {name for cell in cells for name in cell.split(", ")}
+        found = {name for cell in self.members(read) for name in cell.split(", ")}
         return {by_word.get(name.strip("`"), ALIASES.get(name, name)) for name in found}
 
     def lacks(self, read: Reader, commands: Iterable[str]) -> list[str]:
@@ -103,10 +96,6 @@ def without_memory(read: Reader) -> tuple[set[str], set[str]]:
     defined = re.findall(r"^MayStarve m \(?([A-Z]\w+)", outcomes, re.MULTILINE)
     code = read(TOP / "crates/street_memory/src/calls.rt").partition("fn may_starve")[2].partition("\n}\n")[0]
     return {ALIASES.get(name, name) for name in defined}, set(re.findall(ARM, code))
-
-
-def read_text(path: Path) -> str:
-    return path.read_text(encoding="utf-8")
 
 
 def main() -> int:

@@ -7,31 +7,12 @@ ARCHITECTURE ('In the tools') lists the same files for readers who add one. The 
 """
 from __future__ import annotations
 
-import re
 import sys
-from collections.abc import Callable
 from dataclasses import dataclass
-from pathlib import Path
 
-TOP = Path(__file__).resolve().parents[1]
+from places import Place, Reader, read_text
+
 TOOLS = "tools/streetsim"
-Reader = Callable[[Path], str]
-
-
-@dataclass(frozen=True)
-class Place:
-    """Files from the top, what in them names a member, and from which text to which these names stand."""
-
-    files: tuple[str, ...]
-    named: str
-    begin: str = ""
-    end: str = "\0"
-
-    def members(self, read: Reader) -> set[str]:
-        """The names that stand there."""
-        texts = [read(path) for name in self.files for path in sorted(TOP.glob(name))]
-        parts = [(text.partition(self.begin)[2] if self.begin else text).partition(self.end)[0] for text in texts]
-        return {name for part in parts for name in re.findall(self.named, part, re.MULTILINE)}
 
 
 @dataclass(frozen=True)
@@ -98,10 +79,6 @@ KINDS = {
 def lacking(read: Reader) -> list[str]:
     """A line for each place that lacks members of its kind."""
     return [line for kind in KINDS.values() for line in kind.lacking(read)]
-
-
-def read_text(path: Path) -> str:
-    return path.read_text(encoding="utf-8")
 
 
 def main() -> int:

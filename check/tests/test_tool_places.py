@@ -8,7 +8,8 @@ from pathlib import Path
 CHECK = Path(__file__).resolve().parents[1]
 sys.path.insert(0, str(CHECK))
 
-from tool_places import KINDS, TOOLS, TOP, lacking, read_text  # noqa: E402
+from places import TOP, read_text  # noqa: E402
+from tool_places import KINDS, TOOLS, lacking  # noqa: E402
 
 # A member of each kind, and the files in which it is lost, one by one.
 MEMBERS = {
